@@ -11,7 +11,8 @@
 
 ghost use Rattle.std.specs.Prelude.{◌≡◌, ◌<◌, ◌↔◌, IsTrue, length, OnOk, IfErr, IfOk};
 ghost use Rattle.ir_tree.specs.declared.module.Reason.TheVariants.{Unassigned};
-ghost use Rattle.ir_tree.specs.Sites.{AreNumbered};
+ghost use Rattle.ir_tree.specs.Sites.{AreNumbered, sites, parts};
+ghost use Rattle.ir_tree.specs.Definitions.{HasFirsts};
 ghost use Rattle.ir_tree.specs.WellFormed.{Passes, PassesNames, IfRefused};
 ghost use Rattle.ir_check.specs.Told.{IsToldAt};
 ghost use Rattle.assigned_names.specs.Known.{AreBefore};
@@ -22,7 +23,9 @@ mod uses;
 
 use assigning::assigns_of;
 use definite_assignment::{NameSets, assigned_before};
-use ir_tree::{CheckFault, Function, Reason, first_definitions, refusal_at, sites_of, successors};
+use ir_tree::{
+    CheckFault, Function, Reason, SiteList, first_definitions, refusal_at, sites_of, successors,
+};
 use std::alloc::Global;
 use support::NoMemory;
 use uses::first_unassigned;
@@ -40,8 +43,29 @@ pub fn check_assigned(alloc: Global, f: &Function) -> Result<(), CheckFault>
 {
     let list = sites_of(alloc, f)?;
     let firsts = first_definitions(alloc, list.all.as_slice(), f.names.len())?;
+    check_assigned_with(alloc, f, &list, firsts.as_slice())
+}
+
+/// Answers as [`check_assigned`], from the sites of the function and the first definition of each
+/// name.
+pub fn check_assigned_with(
+    alloc: Global,
+    f: &Function,
+    list: &SiteList,
+    firsts: &[Option<usize>],
+) -> Result<(), CheckFault>
+    requires numbered { AreNumbered f.now }
+    requires names { PassesNames f.now }
+    requires sites { list.now.all ≡ sites f.now }
+    requires parts { list.now.parts ≡ parts f.now }
+    requires alike { length list.now.parts ≡ length list.now.all }
+    requires len { length firsts.now ≡ length f.now.names }
+    requires firsts { HasFirsts list.now.all firsts.now }
+    ensures passes { OnOk result (Passes Unassigned f.now) }
+    ensures refused { IfErr result (IfRefused (IsToldAt Unassigned f.now)) }
+{
     let before = names_before(alloc, f)?;
-    match first_unassigned(f, &list, firsts.as_slice(), &before) {
+    match first_unassigned(f, list, firsts, &before) {
         Some(site) => Err(CheckFault::Refused(refusal_at(f, Reason::Unassigned, site))),
         None => Ok(()),
     }

@@ -34,9 +34,22 @@ pub fn check_edges(alloc: Global, f: &Function) -> Result<(), CheckFault>
     ensures refused { IfErr result (IfRefused (IsToldAt PhiEdges f.now)) }
 {
     let list = sites_of(alloc, f)?;
+    check_edges_with(alloc, f, &list)
+}
+
+/// Answers as [`check_edges`], from the sites of the function.
+pub fn check_edges_with(alloc: Global, f: &Function, list: &SiteList) -> Result<(), CheckFault>
+    requires numbered { AreNumbered f.now }
+    requires names { PassesNames f.now }
+    requires sites { list.now.all ≡ sites f.now }
+    requires parts { list.now.parts ≡ parts f.now }
+    requires alike { length list.now.parts ≡ length list.now.all }
+    ensures passes { OnOk result (Passes PhiEdges f.now) }
+    ensures refused { IfErr result (IfRefused (IsToldAt PhiEdges f.now)) }
+{
     let predecessors = predecessors_of(alloc, f)?;
     let mut marks = Marks::new(alloc, f.names.len())?;
-    match first_wrong(f, &list, predecessors.as_slice(), &mut marks) {
+    match first_wrong(f, list, predecessors.as_slice(), &mut marks) {
         Some(site) => Err(CheckFault::Refused(refusal_at(f, Reason::PhiEdges, site))),
         None => Ok(()),
     }

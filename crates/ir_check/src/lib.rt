@@ -16,6 +16,6 @@ mod predecessors;
 mod types;
 mod values;
 
-pub use edges::check_edges;
-pub use names::check_names;
-pub use types::check_types;
+pub use edges::{check_edges, check_edges_with};
+pub use names::{check_names, check_names_with};
+pub use types::{check_types, check_types_with};

@@ -1,12 +1,13 @@
-ghost use Rattle.std.specs.Prelude.{◌<◌, ◌↔◌, IsTrue, ℕ, length, OnOk, IfErr};
-ghost use Rattle.ir_tree.specs.Sites.{AreNumbered};
+ghost use Rattle.std.specs.Prelude.{◌≡◌, ◌<◌, ◌↔◌, IsTrue, ℕ, length, OnOk, IfErr};
+ghost use Rattle.ir_tree.specs.Sites.{AreNumbered, sites};
 ghost use Rattle.ir_tree.specs.WellFormed.{PassesNames, IfRefused, IsFirstFailure, DefinesAgain, UsesUnknown};
 ghost use Rattle.ir_tree.specs.Definitions.{HasFirsts};
 ghost use Rattle.ir_check.specs.Told.{AreNamesToldAt};
 
 use crate::values::{is_label, value_type};
 use ir_tree::{
-    CheckFault, Function, Reason, Site, first_definitions, is_defined_before, refusal_at, sites_of,
+    CheckFault, Function, Reason, Site, SiteList, first_definitions, is_defined_before, refusal_at,
+    sites_of,
 };
 use std::alloc::Global;
 
@@ -25,10 +26,26 @@ pub fn check_names(alloc: Global, f: &Function) -> Result<(), CheckFault>
 {
     let list = sites_of(alloc, f)?;
     let firsts = first_definitions(alloc, list.all.as_slice(), f.names.len())?;
-    if let Some(site) = first_again(list.all.as_slice(), firsts.as_slice()) {
+    check_names_with(f, &list, firsts.as_slice())
+}
+
+/// Answers as [`check_names`], from the sites of the function and the first definition of each name,
+/// which the checks of types and of assignments take too.
+pub fn check_names_with(
+    f: &Function,
+    list: &SiteList,
+    firsts: &[Option<usize>],
+) -> Result<(), CheckFault>
+    requires sites { list.now.all ≡ sites f.now }
+    requires firsts { HasFirsts list.now.all firsts.now }
+    ensures passes { OnOk result (PassesNames f.now) }
+    ensures refused { IfErr result (IfRefused (AreNamesToldAt f.now)) }
+{
+    let sites = list.all.as_slice();
+    if let Some(site) = first_again(sites, firsts) {
         return Err(CheckFault::Refused(refusal_at(f, Reason::NameTwice, site)));
     }
-    if let Some(site) = first_unknown(list.all.as_slice(), firsts.as_slice()) {
+    if let Some(site) = first_unknown(sites, firsts) {
         return Err(CheckFault::Refused(refusal_at(f, Reason::NameUnknown, site)));
     }
     Ok(())

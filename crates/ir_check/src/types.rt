@@ -1,14 +1,14 @@
 ghost use Rattle.std.specs.Prelude.{◌≡◌, ◌<◌, ◌↔◌, IsTrue, ℕ, length, false, OnOk, IfErr, IsSomeAnd};
 ghost use Rattle.ir_tree.specs.declared.module.Reason.TheVariants.{TypeClash};
-ghost use Rattle.ir_tree.specs.Sites.{AreNumbered, is_same_type};
+ghost use Rattle.ir_tree.specs.Sites.{AreNumbered, is_same_type, sites};
 ghost use Rattle.ir_tree.specs.WellFormed.{Passes, PassesNames, IfRefused, IsFirstFailure, DefinesAgain, ClashesType};
 ghost use Rattle.ir_tree.specs.Definitions.{HasFirsts};
 ghost use Rattle.ir_check.specs.Told.{IsToldAt};
 
 use crate::values::value_type;
 use ir_tree::{
-    CheckFault, Function, IrType, Reason, Site, first_definitions, is_same_type, refusal_at,
-    sites_of,
+    CheckFault, Function, IrType, Reason, Site, SiteList, first_definitions, is_same_type,
+    refusal_at, sites_of,
 };
 use std::alloc::Global;
 
@@ -28,7 +28,22 @@ pub fn check_types(alloc: Global, f: &Function) -> Result<(), CheckFault>
 {
     let list = sites_of(alloc, f)?;
     let firsts = first_definitions(alloc, list.all.as_slice(), f.names.len())?;
-    match first_clash(list.all.as_slice(), firsts.as_slice()) {
+    check_types_with(f, &list, firsts.as_slice())
+}
+
+/// Answers as [`check_types`], from the sites of the function and the first definition of each name.
+pub fn check_types_with(
+    f: &Function,
+    list: &SiteList,
+    firsts: &[Option<usize>],
+) -> Result<(), CheckFault>
+    requires names { PassesNames f.now }
+    requires sites { list.now.all ≡ sites f.now }
+    requires firsts { HasFirsts list.now.all firsts.now }
+    ensures passes { OnOk result (Passes TypeClash f.now) }
+    ensures refused { IfErr result (IfRefused (IsToldAt TypeClash f.now)) }
+{
+    match first_clash(list.all.as_slice(), firsts) {
         Some(site) => Err(CheckFault::Refused(refusal_at(f, Reason::TypeClash, site))),
         None => Ok(()),
     }

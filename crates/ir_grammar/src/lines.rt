@@ -4,7 +4,7 @@ ghost use Rattle.token_forms.specs.Form.{reads, read, begin_of, step_of, token_o
 ghost use Rattle.token_forms.specs.Answer.{Reads, Passes};
 ghost use Rattle.ir_words.specs.Spelling as spelling;
 ghost use Rattle.ir_words.specs.Spelling.{is_attached, is_numbered};
-ghost use Rattle.ir_grammar.specs.Classes.{any, attachment_word, metadata_number};
+ghost use Rattle.ir_grammar.specs.Classes.{any, passed, attachment_word, metadata_number};
 ghost use Rattle.token_forms.specs.Form.{one_of};
 ghost use Rattle.ir_grammar.specs.Grammar as spec;
 ghost use Rattle.ir_grammar.specs.Grammar.{is_comma, comma_begins, attachment, record_rest, starts_inst, starts_line, line_begins, line_within, takes_comma, line_comma, with_comma};
@@ -12,7 +12,6 @@ ghost use Rattle.ir_lexer.specs.declared.token.Kind.TheVariants as kind;
 
 use crate::blocks::MOST_INSTS;
 use crate::cursor::Cursor;
-use crate::lists::pushed;
 use crate::memory::default_align;
 use ir_items::{name_before_colon, name_behind_sign};
 use ir_lexer::{Kind, Token};
@@ -109,61 +108,48 @@ fn takes_comma(line: &WrittenLine) -> bool
     }
 }
 
-// The lines and one more phi.
-fn with_phi(so_far: WrittenLines, phi: WrittenPhi) -> Result<WrittenLines, ReadFault>
-    ensures { Reads (λ x. x) result [] (reads (spec.with_phi so_far phi) []) }
+// Adds a phi to the lines.
+fn add_phi(so_far: &mut WrittenLines, phi: WrittenPhi) -> Result<(), ReadFault>
+    ensures { Reads (λ u. so_far.new) result [] (reads (spec.with_phi so_far.old phi) []) }
 {
-    let phis = pushed(so_far.phis, phi)?;
-    Ok(WrittenLines {
-        label: so_far.label,
-        phis,
-        insts: so_far.insts,
-        is_new: false,
-        room: so_far.room.saturating_sub(1),
-    })
+    so_far.phis.push(phi)?;
+    so_far.is_new = false;
+    so_far.room = so_far.room.saturating_sub(1);
+    Ok(())
 }
 
-// The lines and one more.
-fn with_line(so_far: WrittenLines, line: WrittenLine) -> Result<WrittenLines, ReadFault>
-    ensures { Reads (λ x. x) result [] (reads (spec.with_line so_far line) []) }
+// Adds a line to the lines. They change in place: each may have more than 100 bytes.
+fn add_line(so_far: &mut WrittenLines, line: WrittenLine) -> Result<(), ReadFault>
+    ensures { Reads (λ u. so_far.new) result [] (reads (spec.with_line so_far.old line) []) }
 {
     match line {
-        WrittenLine::Label(name) => Ok(WrittenLines {
-            label: Some(name),
-            phis: so_far.phis,
-            insts: so_far.insts,
-            is_new: false,
-            room: so_far.room,
-        }),
-        WrittenLine::Record => Ok(WrittenLines {
-            label: so_far.label,
-            phis: so_far.phis,
-            insts: so_far.insts,
-            is_new: false,
-            room: so_far.room,
-        }),
-        WrittenLine::Entries(phi) | WrittenLine::Phi(phi) => with_phi(so_far, phi),
+        WrittenLine::Label(name) => {
+            so_far.label = Some(name);
+            so_far.is_new = false;
+            Ok(())
+        }
+        WrittenLine::Record => {
+            so_far.is_new = false;
+            Ok(())
+        }
+        WrittenLine::Entries(phi) | WrittenLine::Phi(phi) => add_phi(so_far, phi),
         WrittenLine::Access(access) => {
             let align = default_align(&access);
-            with_inst(so_far, WrittenInst::Access { access, align })
+            add_inst(so_far, WrittenInst::Access { access, align })
         }
-        WrittenLine::Indices(gep) => with_inst(so_far, WrittenInst::GetElementPtr(gep)),
-        WrittenLine::Inst(inst) => with_inst(so_far, inst),
+        WrittenLine::Indices(gep) => add_inst(so_far, WrittenInst::GetElementPtr(gep)),
+        WrittenLine::Inst(inst) => add_inst(so_far, inst),
     }
 }
 
-// The lines and one more instruction that is no phi.
-fn with_inst(so_far: WrittenLines, inst: WrittenInst) -> Result<WrittenLines, ReadFault>
-    ensures { Reads (λ x. x) result [] (reads (spec.with_inst so_far inst) []) }
+// Adds an instruction that is no phi to the lines.
+fn add_inst(so_far: &mut WrittenLines, inst: WrittenInst) -> Result<(), ReadFault>
+    ensures { Reads (λ u. so_far.new) result [] (reads (spec.with_inst so_far.old inst) []) }
 {
-    let insts = pushed(so_far.insts, inst)?;
-    Ok(WrittenLines {
-        label: so_far.label,
-        phis: so_far.phis,
-        insts,
-        is_new: false,
-        room: so_far.room.saturating_sub(1),
-    })
+    so_far.insts.push(inst)?;
+    so_far.is_new = false;
+    so_far.room = so_far.room.saturating_sub(1);
+    Ok(())
 }
 
 impl<'a, 'b> Cursor<'a, 'b> {
@@ -293,14 +279,11 @@ impl<'a, 'b> Cursor<'a, 'b> {
         }
     }
 
-    // One more comma and what follows it, if one is next, and whether one was.
-    fn one_comma(&mut self, line: WrittenLine) -> Result<(WrittenLine, bool), ReadFault>
-        ensures { Reads (λ x. x) result self.new (step_of is_comma line_comma (λ l. any) (λ l comma ts. read true (with_comma l) ts) line self.old) }
+    // Passes a comma, if one is next that may follow this line.
+    fn eat_comma(&mut self, line: &WrittenLine) -> bool
+        ensures { begin_of true is_comma (line_comma line.now) any self.old ≡ reads (passed result) self.new }
     {
-        if !takes_comma(&line) || !self.eat_mark(b",".as_slice()) {
-            return Ok((line, false));
-        }
-        Ok((self.with_comma(line)?, true))
+        takes_comma(line) && self.eat_mark(b",".as_slice())
     }
 
     // The line with what follows its commas.
@@ -308,40 +291,35 @@ impl<'a, 'b> Cursor<'a, 'b> {
         ensures { Reads (λ x. x) result self.new (read true (spec.behind_commas line) self.old) }
     {
         let mut so_far = line;
-        loop {
-            let (next, is_more) = self.one_comma(so_far)?;
-            so_far = next;
-            if !is_more {
-                return Ok(so_far);
-            }
+        while self.eat_comma(&so_far) {
+            so_far = self.with_comma(so_far)?;
         }
+        Ok(so_far)
     }
 
     // Reads a line after what begins it.
     #[tactic(auto, unfolding(crate::specs::Grammar::next_line, crate::specs::Grammar::whole_line, crate::specs::Grammar::behind_commas))]
-    fn next_line(
-        &mut self,
-        so_far: WrittenLines,
-        start: LineStart,
-    ) -> Result<WrittenLines, ReadFault>
-        ensures { Reads (λ x. x) result self.new (read true (spec.next_line so_far start) self.old) }
+    fn next_line(&mut self, so_far: &mut WrittenLines, start: LineStart) -> Result<(), ReadFault>
+        ensures { Reads (λ u. so_far.new) result self.new (read true (spec.next_line so_far.old start) self.old) }
     {
         let phi_too = so_far.insts.len() == 0;
         let number = MOST_INSTS.saturating_sub(so_far.room);
         let started = self.started(phi_too, number, start)?;
         let line = self.behind_commas(started)?;
-        with_line(so_far, line)
+        add_line(so_far, line)
     }
 
     // One more line, if one begins here, and whether one did.
-    fn one_line(&mut self, so_far: WrittenLines) -> Result<(WrittenLines, bool), ReadFault>
-        ensures { Reads (λ x. x) result self.new (step_of starts_line line_begins line_within (λ s a ts. read true (spec.next_line s a) ts) so_far self.old) }
+    fn one_line(&mut self, so_far: &mut WrittenLines) -> Result<bool, ReadFault>
+        ensures { Reads (λ more. (so_far.new, more)) result self.new (step_of starts_line line_begins line_within (λ s a ts. read true (spec.next_line s a) ts) so_far.old self.old) }
     {
         let room = 0 < so_far.room;
-        let is_new = so_far.is_new;
-        match self.line_start(is_new, room)? {
-            None => Ok((so_far, false)),
-            Some(start) => Ok((self.next_line(so_far, start)?, true)),
+        match self.line_start(so_far.is_new, room)? {
+            None => Ok(false),
+            Some(start) => {
+                self.next_line(so_far, start)?;
+                Ok(true)
+            }
         }
     }
 
@@ -358,8 +336,7 @@ impl<'a, 'b> Cursor<'a, 'b> {
             room,
         };
         loop {
-            let (next, is_more) = self.one_line(so_far)?;
-            so_far = next;
+            let is_more = self.one_line(&mut so_far)?;
             if !is_more {
                 return Ok(so_far);
             }

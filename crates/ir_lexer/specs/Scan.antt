@@ -1,5 +1,5 @@
 -- What follows the longest prefix of each class, as the code finds it.
-use Rattle.std.specs.Prelude.{ℕ, ◌-◌, List, [], ◌∷◌, length, take_while, Option, Some, None, option_and_then, unwrap_or, Bool, ◌==◌, nat_lt, if◌then◌else◌}
+use Rattle.std.specs.Prelude.{ℕ, ◌+◌, ◌-◌, List, [], ◌∷◌, length, take_while, Option, Some, None, option_and_then, unwrap_or, Bool, ◌==◌, nat_lt, if◌then◌else◌}
 use Rattle.ir_lexer.specs.declared.token.Kind.{Kind}
 use Rattle.ir_lexer.specs.declared.token.Kind.TheVariants as kind
 use Rattle.ir_lexer.specs.Bytes.{is_digit, begins_word, is_name_byte, begins_name, is_hexadecimal_digit, is_float_kind, is_sign, is_inside_quotes, is_mark_byte}
@@ -138,3 +138,16 @@ front_token text =
     let float = longer (length text) label kind.Float (after_float text) in
     let hexadecimal = longer (length text) float kind.Hexadecimal (after_hexadecimal text) in
     longer (length text) hexadecimal kind.String (after_string text)
+
+-- a run of name bytes before a rest: a label with the colon that follows, or else a word
+abbrev pub word_or_label : ℕ → List ℕ → Kind × ℕ
+word_or_label run [] = (kind.Word, run)
+word_or_label run (b ∷ bs) = (if b == 58 then (kind.Label, run + 1) else (kind.Word, run))
+
+-- the longest token that begins with a digit or a minus
+unfoldable pub number_token : List ℕ → Option (Kind × ℕ)
+number_token text =
+    let number = longer (length text) None kind.Number (after_number text) in
+    let label = longer (length text) number kind.Label (after_label text) in
+    let float = longer (length text) label kind.Float (after_float text) in
+    longer (length text) float kind.Hexadecimal (after_hexadecimal text)

@@ -1,6 +1,6 @@
 // Classes of bytes.
 ghost use Rattle.std.specs.Prelude.{◌≡◌};
-ghost use Rattle.ir_lexer.specs.Bytes.{is_digit, begins_word, is_name_byte, begins_name, is_hexadecimal_digit, is_float_kind, is_sign, is_blank, is_mark_byte};
+ghost use Rattle.ir_lexer.specs.Bytes.{is_digit, begins_word, is_name_byte, begins_name, is_hexadecimal_digit, is_float_kind, is_sign, is_blank, is_mark_byte, is_lone_mark, begins_plain_word, begins_number};
 
 /// A space, a tab, a line feed or a carriage return, which separate tokens.
 pub fn is_blank(b: u8) -> bool
@@ -76,4 +76,25 @@ pub fn is_mark_byte(b: u8) -> bool
         || b == b':'
         || b == b'!'
         || b == b'|'
+}
+
+/// A byte that is a mark by itself and begins no longer token.
+pub fn is_lone_mark(b: u8) -> bool
+    ensures { result ≡ is_lone_mark b }
+{
+    is_mark_byte(b) && b != b'!'
+}
+
+/// A letter or `_` with which only words and labels begin: not `c`, which also begins strings.
+pub fn begins_plain_word(b: u8) -> bool
+    ensures { result ≡ begins_plain_word b }
+{
+    begins_word(b) && b != b'.' && b != b'c'
+}
+
+/// A digit or a minus.
+pub fn begins_number(b: u8) -> bool
+    ensures { result ≡ begins_number b }
+{
+    is_digit(b) || b == b'-'
 }

@@ -1,8 +1,9 @@
 // The token at the start of a text. Each class has a function that returns what follows its
-// longest prefix; the longest of them all is the token. Each looks at the bytes that it takes and
-// at no more than two after them, except a label, which needs the end of its run of name bytes:
-// that is passed in, so that the tokens of one run don't each look for it again.
-ghost use Rattle.std.specs.Prelude.{◌≡◌, ◌≤◌, ◌==◌, ◌<◌, ℕ, length, Option, IfSome};
+// longest prefix; the longest of them all is the token. The first byte of most tokens leaves one or
+// a few classes, and only those are looked at. Each looks at the bytes that it takes and at no more
+// than two after them, except a label, which needs the end of its run of name bytes: that is passed
+// in, so that the tokens of one run don't each look for it again.
+ghost use Rattle.std.specs.Prelude.{◌≡◌, ◌+◌, ◌≤◌, ◌==◌, ◌<◌, ◌^◌, ℕ, length, Option, IfSome};
 ghost use Rattle.std.specs.Option.{option_copied, ForSome};
 ghost use Rattle.ir_lexer.specs.Bytes.{is_digit, is_sign, is_float_kind, is_hexadecimal_digit, is_mark_byte};
 ghost use Rattle.ir_lexer.specs.Parts.{behind_one};
@@ -84,15 +85,20 @@ fn after_plain_name(text: &[u8]) -> Option<&[u8]>
     }
 }
 
-#[tactic(auto, unfolding(crate::specs::Scan::after_name))]
 fn after_name(text: &[u8]) -> Option<&[u8]>
     ensures value { option_copied result ≡ scan.after_name text.now }
     ensures within { IfSome result (λ rest. length rest.now ≤ length text.now) }
 {
-    shorter(
-        shorter(after_digits(text), after_plain_name(text)),
-        after_quoted(text),
-    )
+    let [first, ..] = text else {
+        return None;
+    };
+    if bytes::begins_name(*first) {
+        after_plain_name(text)
+    } else if bytes::is_digit(*first) {
+        after_digits(text)
+    } else {
+        after_quoted(text)
+    }
 }
 
 #[tactic(auto, unfolding(crate::specs::Scan::after_named))]
@@ -266,11 +272,56 @@ fn scanned(text: &[u8], run: usize) -> Option<(Kind, usize)>
     longer(found, Kind::String, text, after_string(text))
 }
 
+#[tactic(auto, unfolding(crate::specs::Scan::number_token))]
+fn number_token(text: &[u8], run: usize) -> Option<(Kind, usize)>
+    requires { run ≡ scan.name_run text.now }
+    ensures { result ≡ scan.number_token text.now }
+{
+    let found = longer(None, Kind::Number, text, after_number(text));
+    let found = longer(found, Kind::Label, text, after_label(text, run));
+    let found = longer(found, Kind::Float, text, after_float(text));
+    longer(found, Kind::Hexadecimal, text, after_hexadecimal(text))
+}
+
+// The token of a run of name bytes that begins neither with a digit nor with a mark, before a rest.
+fn word_or_label(run: usize, rest: &[u8]) -> (Kind, usize)
+    requires { run + length rest.now < 2 ^ 64 }
+    ensures { result ≡ scan.word_or_label run rest.now }
+{
+    match rest {
+        [b':', ..] => (Kind::Label, run + 1),
+        _ => (Kind::Word, run),
+    }
+}
+
+// The longest token at the start.
+#[tactic(auto, using(crate::proofs::Behind::runs))]
+fn dispatched(text: &[u8], run: usize) -> Option<(Kind, usize)>
+    requires { run ≡ scan.name_run text.now }
+    ensures { result ≡ scan.front_token text.now }
+{
+    let [first, ..] = text else {
+        return None;
+    };
+    let first = *first;
+    if bytes::is_lone_mark(first) {
+        Some((Kind::Mark, 1))
+    } else if first == b'%' {
+        longer(None, Kind::Local, text, after_named(b'%', text))
+    } else if bytes::begins_plain_word(first) {
+        Some(word_or_label(run, text.split_at(run).1))
+    } else if bytes::begins_number(first) {
+        number_token(text, run)
+    } else {
+        scanned(text, run)
+    }
+}
+
 /// The longest token at the start, and its length. The run is that of the leading name bytes.
 pub fn first_token(text: &[u8], run: usize) -> Option<(Kind, usize)>
     requires { run ≡ scan.name_run text.now }
     ensures value { result ≡ longest_token text.now }
     ensures bounds { IfSome result (λ found. (0 < found.1) × (found.1 ≤ length text.now)) }
 {
-    scanned(text, run)
+    dispatched(text, run)
 }

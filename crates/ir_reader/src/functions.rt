@@ -5,12 +5,12 @@ ghost use Rattle.ir_reader.specs.Functions as spec;
 ghost use Rattle.ir_reader.specs.Functions.{Answers};
 ghost use Rattle.ir_reader.specs.Answer.{Writes, Tests, fault_at};
 
-use assigned_names::check_assigned;
-use ir_check::{check_edges, check_names, check_types};
+use assigned_names::check_assigned_with;
+use ir_check::{check_edges_with, check_names_with, check_types_with};
 use ir_grammar::{Cursor, WrittenFunction};
 use ir_lexer::Token;
 use ir_numbering::numbered;
-use ir_tree::{CheckFault, Function, Reason, Refused};
+use ir_tree::{CheckFault, Function, Reason, Refused, first_definitions, sites_of};
 use ir_words::reason_at;
 use std::alloc::Global;
 use support::Sequence;
@@ -80,10 +80,12 @@ fn test(alloc: Global, f: &Function) -> Result<(), CheckFault>
     requires { AreNumbered f.now }
     ensures { Tests f.now result }
 {
-    check_names(alloc, f)?;
-    check_types(alloc, f)?;
-    check_edges(alloc, f)?;
-    check_assigned(alloc, f)?;
+    let list = sites_of(alloc, f)?;
+    let firsts = first_definitions(alloc, list.all.as_slice(), f.names.len())?;
+    check_names_with(f, &list, firsts.as_slice())?;
+    check_types_with(f, &list, firsts.as_slice())?;
+    check_edges_with(alloc, f, &list)?;
+    check_assigned_with(alloc, f, &list, firsts.as_slice())?;
     check_undef(alloc, f)?;
     Ok(())
 }

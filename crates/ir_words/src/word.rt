@@ -107,7 +107,7 @@ pub enum HeaderPart {
 pub fn is_spelled(text: &[u8], word: &[u8]) -> bool
     ensures { result ≡ bytes_eq text.now word.now }
 {
-    text == word
+    text.len() == word.len() && text == word
 }
 
 /// Whether a token is this word.

@@ -4,7 +4,7 @@ use Rattle.ir_lexer.proofs.scan.first_token.Goals as goal
 
 pub returns : goal.returns
 returns c =
-    let is : c.scanned.result ≡ longest_token c.args.text.now = c.scanned.ensures ∙ front_token-longest c.args.text.now in
+    let is : c.dispatched.result ≡ longest_token c.args.text.now = c.dispatched.ensures ∙ front_token-longest c.args.text.now in
     record {
       value = is;
       bounds = subst (λ (o : Option (Kind × ℕ)). IfSome o (λ found. (0 < found.1) × (found.1 ≤ length c.args.text.now))) (sym is) (longest-bounds c.args.text.now);
