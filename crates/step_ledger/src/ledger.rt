@@ -2,6 +2,7 @@
 
 ghost use Rattle.std.specs.Prelude.{◌↔◌, IfOk, IsTrue};
 ghost use Rattle.clause_log.specs.Refutation.{EndsEmpty, IsSoundAt, Refutes};
+ghost use Rattle.step_ledger.specs.Sound.{AreSound};
 
 use clause_lits::Clause;
 use clause_log::{Step, chain_resolvent};
@@ -37,15 +38,22 @@ fn ends_empty(log: &[Step]) -> bool
     }
 }
 
-/// Whether a log refutes the clauses: each step is the resolvent of its chain of earlier clauses, and the
-/// last one is empty.
-pub fn refutes(alloc: Global, clauses: &[Clause], log: &[Step]) -> Result<bool, NoMemory>
-    ensures { IfOk result (λ b. IsTrue b ↔ Refutes clauses.now log.now) }
+/// Whether each step of a log is the resolvent of its chain of the clauses and the steps before it.
+pub fn are_sound(alloc: Global, clauses: &[Clause], log: &[Step]) -> Result<bool, NoMemory>
+    ensures { IfOk result (λ b. IsTrue b ↔ AreSound clauses.now log.now) }
 {
     for index in 0..log.len() {
         if !is_sound_at(alloc, clauses, log, index)? {
             return Ok(false);
         }
     }
-    Ok(ends_empty(log))
+    Ok(true)
+}
+
+/// Whether a log refutes the clauses: each step is the resolvent of its chain of earlier clauses, and the
+/// last one is empty.
+pub fn refutes(alloc: Global, clauses: &[Clause], log: &[Step]) -> Result<bool, NoMemory>
+    ensures { IfOk result (λ b. IsTrue b ↔ Refutes clauses.now log.now) }
+{
+    Ok(ends_empty(log) && are_sound(alloc, clauses, log)?)
 }
