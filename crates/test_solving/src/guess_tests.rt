@@ -92,8 +92,9 @@ fn is_refused(alloc: Global, cnf: &Cnf, first: Lit) -> Result<bool, NoMemory> {
     };
     let log = solver.take_needed(cnf.clauses.len() as u64)?;
     let is_sound = are_sound(alloc, cnf.clauses.as_slice(), log.as_slice())?;
+    let core = [first.opposite(), last.opposite()];
     Ok(match log.as_slice().last() {
-        Some(step) => is_sound && step.clause.literals() == [first.opposite(), last.opposite()],
+        Some(step) => is_sound && step.clause.literals() == core.as_slice(),
         None => false,
     })
 }
