@@ -2,7 +2,7 @@
 //! and K. Sakallah, "GRASP", 1996), without the literals whose reasons are covered by the others (N.
 //! Sörensson and A. Biere, "Minimizing Learned Clauses", 2009), and the chain that resolves to it.
 
-use crate::search::Search;
+use crate::search::Solver;
 use crate::tables::{byte_at, put_byte};
 use crate::trail::{opposite, variable_of};
 use std::alloc::Global;
@@ -37,7 +37,7 @@ impl Walk {
     }
 }
 
-impl Search {
+impl Solver {
     /// Whether a variable is marked.
     fn is_seen(&self, variable: u32) -> bool {
         byte_at(&self.seen, variable) == 1
@@ -139,22 +139,47 @@ impl Search {
         self.marked.clear();
     }
 
-    /// The chain of the empty clause, from a clause that is false without a decision.
+    /// The empty clause, from a clause that is false without a decision.
     pub fn refutation(&mut self, conflict: u32) -> Result<Learned, NoMemory> {
+        let literals = Vec::new(self.alloc);
+        self.traced(conflict, literals)
+    }
+
+    /// The clause of a literal's opposite and of opposites of decisions, where an assumed literal is false.
+    pub fn refuse(&mut self, literal: u32) -> Result<(), NoMemory> {
+        let reason = self.trail.reason_of(variable_of(literal));
+        let mut literals = Vec::new(self.alloc);
+        literals.push(opposite(literal))?;
+        put_byte(&mut self.seen, variable_of(literal), 1);
+        let learned = self.traced(reason, literals)?;
+        put_byte(&mut self.seen, variable_of(literal), 0);
+        let is_short = learned.literals.len() == 1;
+        let number = self.keep(learned)?;
+        if is_short {
+            self.go_back(0)?;
+            self.force(opposite(literal), number)?;
+        }
+        Ok(())
+    }
+
+    /// Resolves the literals of a clause away that have reasons, and takes those that were decided.
+    fn traced(&mut self, number: u32, mut literals: Vec<u32>) -> Result<Learned, NoMemory> {
         let mut walk = Walk::new(self.alloc);
-        self.meet(&mut walk, conflict)?;
+        self.meet(&mut walk, number)?;
         for place in (0..self.trail.len()).rev() {
-            let variable = variable_of(self.trail.literal(place));
-            if self.is_seen(variable) {
+            let literal = self.trail.literal(place);
+            let variable = variable_of(literal);
+            if byte_at(&self.seen, variable) == 1 && literals.first().copied() != Some(literal) {
                 let reason = self.trail.reason_of(variable);
-                self.meet(&mut walk, reason)?;
+                if reason > 0 {
+                    self.meet(&mut walk, reason)?;
+                } else {
+                    literals.push(opposite(literal))?;
+                }
             }
         }
         self.forget_marks();
         let Walk { chain, .. } = walk;
-        Ok(Learned {
-            chain,
-            literals: Vec::new(self.alloc),
-        })
+        Ok(Learned { chain, literals })
     }
 }

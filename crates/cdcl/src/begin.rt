@@ -1,8 +1,10 @@
 //! A search before its first decision.
 
 use crate::clauses::Clauses;
+use crate::luby::Luby;
+use crate::occurrences::Occurrences;
 use crate::order::Order;
-use crate::search::Search;
+use crate::search::Solver;
 use crate::tables::{put, short, zeros};
 use crate::trail::Trail;
 use crate::watches::Watches;
@@ -14,7 +16,7 @@ use support::{NoMemory, Sequence};
 const MOST_VARIABLES: u64 = 1 << 30;
 
 /// The number of a literal.
-fn code_of(literal: Lit) -> u32 {
+pub fn code_of(literal: Lit) -> u32 {
     let variable = short(literal.variable as usize);
     let sign = if literal.positive { 0 } else { 1 };
     variable.wrapping_mul(2).wrapping_add(sign)
@@ -38,11 +40,11 @@ fn ranks_of(alloc: Global, variables: usize, first: &[Lit]) -> Result<Vec<u32>, 
     Ok(ranks)
 }
 
-impl Search {
+impl Solver {
     /// No clauses yet, over this many variables and 0.
-    fn empty(alloc: Global, variables: usize, first: &[Lit]) -> Result<Search, NoMemory> {
+    fn empty(alloc: Global, variables: usize, first: &[Lit]) -> Result<Solver, NoMemory> {
         let ranks = ranks_of(alloc, variables, first)?;
-        Ok(Search {
+        Ok(Solver {
             alloc,
             clauses: Clauses::new(alloc)?,
             watches: Watches::new(alloc, variables.saturating_mul(2))?,
@@ -53,25 +55,38 @@ impl Search {
             marked: Vec::new(alloc),
             head: 0,
             conflict: 0,
+            given: 0,
+            occurrences: Occurrences::new(alloc, variables.saturating_mul(2))?,
+            queue: Vec::new(alloc),
+            marks: vec![in alloc; 0; variables.saturating_mul(2)]?,
+            removed: vec![in alloc; 0; variables]?,
+            eliminated: Vec::new(alloc),
+            cleared: 0,
+            work: 0,
+            is_reduced: false,
+            is_failed: false,
+            luby: Luby::new(),
             log: Sequence::from_vec(Vec::new(alloc)),
+            taken: Vec::new(alloc),
         })
     }
 
-    /// A search for a model of clauses, or `None` where there are too many variables. Before a conflict
-    /// the variables `first` come first, in their order.
-    pub fn of(alloc: Global, cnf: &Cnf, first: &[Lit]) -> Result<Option<Search>, NoMemory> {
+    /// A solver of clauses, or `None` where there are too many variables. Before a conflict the variables
+    /// `first` are decided before the others, in their order.
+    pub fn of(alloc: Global, cnf: &Cnf, first: &[Lit]) -> Result<Option<Solver>, NoMemory> {
         if cnf.variables >= MOST_VARIABLES {
             return Ok(None);
         }
         let variables = (cnf.variables as usize).saturating_add(1);
-        let mut search = Search::empty(alloc, variables, first)?;
+        let mut solver = Solver::empty(alloc, variables, first)?;
         for clause in cnf.clauses.as_slice() {
-            search.give(clause)?;
+            solver.give(clause)?;
         }
+        solver.given = solver.clauses.count();
         for variable in 1..variables {
-            search.order.insert(short(variable))?;
+            solver.order.insert(short(variable))?;
         }
-        Ok(Some(search))
+        Ok(Some(solver))
     }
 
     /// Adds a given clause: it is watched, or its one literal is true.
@@ -91,7 +106,7 @@ impl Search {
     }
 
     /// Makes the one literal of a clause true.
-    fn force(&mut self, literal: u32, number: u32) -> Result<(), NoMemory> {
+    pub fn force(&mut self, literal: u32, number: u32) -> Result<(), NoMemory> {
         if self.trail.is_false(literal) {
             self.conflict = number;
         } else if self.trail.is_open(literal) {

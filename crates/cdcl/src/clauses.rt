@@ -46,6 +46,22 @@ impl Clauses {
         self.literals.len() < MOST && self.begins.len() < MOST / 2
     }
 
+    /// How many clauses there are.
+    pub fn count(&self) -> u32 {
+        count(&self.begins).wrapping_sub(1)
+    }
+
+    /// How many literals they have together.
+    pub fn size(&self) -> usize {
+        self.literals.len()
+    }
+
+    /// How many literals a clause has.
+    pub fn length(&self, number: u32) -> u32 {
+        let span = self.span(number);
+        span.end.wrapping_sub(span.begin)
+    }
+
     /// Where the literals of a clause are.
     pub fn span(&self, number: u32) -> Span {
         Span {

@@ -1,14 +1,14 @@
 //! A learned clause becomes one of the search's, and a step of its log.
 
 use crate::analysis::Learned;
-use crate::search::Search;
+use crate::search::Solver;
 use crate::tables::put_byte;
 use crate::trail::variable_of;
 use clause_lits::{Clause, Lit, is_clause};
 use clause_log::Step;
 use smallvec::SmallVec;
 use std::alloc::Global;
-use support::NoMemory;
+use support::{NoMemory, Sequence};
 
 /// The clause of these literals, or `None` where a variable is in it twice.
 fn clause_of(alloc: Global, literals: &[u32]) -> Result<Option<Clause>, NoMemory> {
@@ -29,33 +29,59 @@ fn clause_of(alloc: Global, literals: &[u32]) -> Result<Option<Clause>, NoMemory
     }
 }
 
-impl Search {
-    /// Adds a step to the log; whether it is one.
-    pub fn note(&mut self, learned: Learned) -> Result<bool, NoMemory> {
+/// A list of a few numbers.
+pub fn chain_of(alloc: Global, numbers: &[u32]) -> Result<Vec<u32>, NoMemory> {
+    Ok(Vec::from_slice(alloc, numbers)?)
+}
+
+impl Solver {
+    /// Adds a step to the log.
+    fn note(&mut self, literals: &[u32], chain: Sequence<u64>) -> Result<(), NoMemory> {
+        match clause_of(self.alloc, literals)? {
+            Some(clause) => self.log.push(Step { chain, clause })?,
+            None => self.is_failed = true,
+        }
+        Ok(())
+    }
+
+    /// Adds a clause that was learned, and its step; its number. It is not watched.
+    pub fn keep(&mut self, learned: Learned) -> Result<u32, NoMemory> {
         let Learned { chain, literals } = learned;
-        let Some(clause) = clause_of(self.alloc, &literals)? else {
-            return Ok(false);
-        };
-        self.log.push(Step { chain, clause })?;
-        Ok(true)
+        let number = self.clauses.add(&literals)?;
+        self.watches.extend()?;
+        self.note(&literals, chain)?;
+        Ok(number)
+    }
+
+    /// Adds a clause that is resolved from this chain, and its step; its number. It is not watched.
+    pub fn add_step(&mut self, literals: &[u32], numbers: &[u32]) -> Result<u32, NoMemory> {
+        let mut chain = Sequence::from_vec(Vec::new(self.alloc));
+        for number in numbers {
+            chain.push(*number as u64)?;
+        }
+        let number = self.clauses.add(literals)?;
+        self.watches.extend()?;
+        self.note(literals, chain)?;
+        Ok(number)
     }
 
     /// Learns from a clause that is false, after a decision: goes back to the last level at which all
     /// literals but one of what is learned are false, and makes that one true.
-    pub fn learn(&mut self, conflict: u32) -> Result<bool, NoMemory> {
+    pub fn learn(&mut self, conflict: u32) -> Result<(), NoMemory> {
         let mut learned = self.analyze(conflict)?;
         let level = self.level_behind(&mut learned.literals);
         self.go_back(level)?;
-        let number = self.clauses.add(&learned.literals)?;
-        self.watches.extend()?;
-        if learned.literals.len() > 1 {
+        let first = learned.literals.first().copied();
+        let is_long = learned.literals.len() > 1;
+        let number = self.keep(learned)?;
+        if is_long {
             self.watch(number);
         }
-        if let Some(first) = learned.literals.first().copied() {
+        if let Some(first) = first {
             self.trail.assign(first, number)?;
         }
         self.order.end_conflict();
-        self.note(learned)
+        Ok(())
     }
 
     /// The last level of the literals after the first one, of which one comes to the second place.

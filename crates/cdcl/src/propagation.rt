@@ -1,11 +1,11 @@
 //! Unit propagation by two watched literals a clause.
 
 use crate::clauses::Span;
-use crate::search::Search;
+use crate::search::Solver;
 use crate::trail::opposite;
 use support::NoMemory;
 
-impl Search {
+impl Solver {
     /// Makes true what follows from the trail; the number of a clause that is false, or 0.
     pub fn propagate(&mut self) -> Result<u32, NoMemory> {
         for _ in 0..u32::MAX {

@@ -1,23 +1,25 @@
 //! The search.
 
+use crate::begin::code_of;
 use crate::clauses::Clauses;
 use crate::luby::Luby;
+use crate::occurrences::Occurrences;
 use crate::order::Order;
-use crate::tables::{byte_at, short};
+use crate::tables::{byte_at, put_byte, short};
 use crate::trail::Trail;
 use crate::watches::Watches;
-use clause_lits::{Assignment, Cnf, Lit};
+use clause_lits::{Assignment, Lit};
 use clause_log::Log;
 use std::alloc::Global;
 use support::{NoMemory, Sequence};
 
-/// What a search guesses.
+/// What a solver guesses.
 #[derive(Drop)]
 pub enum Guessed {
-    /// Values that make each clause true.
+    /// Values that make each clause true, and each assumed literal.
     Model(Assignment),
-    /// Steps that end in the empty clause.
-    Refuted(Log),
+    /// There are none: the last step's clause has only opposites of assumed literals.
+    None,
     /// Neither of them within the budget.
     Spent,
 }
@@ -25,25 +27,48 @@ pub enum Guessed {
 /// Conflicts between two restarts, times a number of Luby's sequence.
 const RESTART_UNIT: u64 = 100;
 
-/// A search for a model.
+/// Clauses, and how far the search for a model of them is. It goes on where it stopped.
 #[derive(Drop)]
-pub struct Search {
-    pub alloc: Global,
-    pub clauses: Clauses,
-    pub watches: Watches,
-    pub trail: Trail,
-    pub order: Order,
+pub struct Solver {
+    pub(crate) alloc: Global,
+    pub(crate) clauses: Clauses,
+    pub(crate) watches: Watches,
+    pub(crate) trail: Trail,
+    pub(crate) order: Order,
     /// The last value of each variable: 1 for false.
-    pub phases: Vec<u8>,
+    pub(crate) phases: Vec<u8>,
     /// 1 for a variable that is marked.
-    pub seen: Vec<u8>,
+    pub(crate) seen: Vec<u8>,
     /// The variables that are marked.
-    pub marked: Vec<u32>,
+    pub(crate) marked: Vec<u32>,
     /// How many literals of the trail are propagated.
-    pub head: u32,
-    /// The number of a given clause that is false from the start, or 0.
-    pub conflict: u32,
-    pub log: Log,
+    pub(crate) head: u32,
+    /// The number of a clause that is false without a decision, or 0.
+    pub(crate) conflict: u32,
+    /// How many clauses were given.
+    pub(crate) given: u32,
+    /// The clauses before the search, once variables are resolved away.
+    pub(crate) occurrences: Occurrences,
+    /// The clauses before the search that were not tried on others.
+    pub(crate) queue: Vec<u32>,
+    /// 1 for a literal that is marked.
+    pub(crate) marks: Vec<u8>,
+    /// 1 for a variable that was resolved away.
+    pub(crate) removed: Vec<u8>,
+    /// The variables that were resolved away, in this order.
+    pub(crate) eliminated: Vec<u32>,
+    /// How many literals of the trail are cleared out of the clauses before the search.
+    pub(crate) cleared: u32,
+    /// How many more literals may be looked at before the search.
+    pub(crate) work: u64,
+    /// Whether variables were tried, to resolve them away.
+    pub(crate) is_reduced: bool,
+    /// Whether a step could not be made.
+    pub(crate) is_failed: bool,
+    pub(crate) luby: Luby,
+    pub(crate) log: Log,
+    /// The number of each step that was taken, among the clauses of who took it; 0 for others.
+    pub(crate) taken: Vec<u32>,
 }
 
 /// How far the search is.
@@ -52,32 +77,36 @@ enum Course {
     GoesOn,
     /// Each variable has a value.
     Full,
-    Refuted,
+    /// There is no model under what is assumed.
+    None,
     Failed,
 }
 
-/// What clauses may have, by at most this many conflicts: a model, or a log that refutes them. Before the
-/// first conflict the variables of `first` are decided before the others, in their order. Nothing of the
-/// answer is promised.
-pub fn guess(alloc: Global, cnf: &Cnf, first: &[Lit], most: u64) -> Result<Guessed, NoMemory> {
-    match Search::of(alloc, cnf, first)? {
-        Some(search) => search.run(cnf.variables, most),
-        None => Ok(Guessed::Spent),
+impl Solver {
+    /// Values that make the clauses and these literals true, by at most this many conflicts more; or that
+    /// there are none. Nothing of the answer is promised.
+    pub fn solve(&mut self, assumed: &[Lit], most: u64) -> Result<Guessed, NoMemory> {
+        let mut literals = Vec::new(self.alloc);
+        for literal in assumed {
+            literals.push(code_of(*literal))?;
+        }
+        self.go_back(0)?;
+        let course = self.run(&literals, most)?;
+        Ok(match course {
+            Course::Full => Guessed::Model(self.values()?),
+            Course::None => Guessed::None,
+            Course::GoesOn | Course::Failed => Guessed::Spent,
+        })
     }
-}
 
-impl Search {
     /// Searches on, for at most this many conflicts.
-    fn run(mut self, variables: u64, most: u64) -> Result<Guessed, NoMemory> {
-        let mut luby = Luby::new();
+    fn run(&mut self, assumed: &[u32], most: u64) -> Result<Course, NoMemory> {
         let mut left = most;
         for _ in 0..u64::MAX {
-            let length = luby.next().saturating_mul(RESTART_UNIT).min(left);
-            match self.run_on(length)? {
-                Course::Full => return Ok(Guessed::Model(self.values(variables)?)),
-                Course::Refuted => return Ok(Guessed::Refuted(self.log)),
-                Course::Failed => return Ok(Guessed::Spent),
-                Course::GoesOn => {}
+            let length = self.luby.next().saturating_mul(RESTART_UNIT).min(left);
+            let course = self.run_on(assumed, length)?;
+            if course != Course::GoesOn {
+                return Ok(course);
             }
             left = left.wrapping_sub(length);
             if left == 0 || !self.clauses.has_room() {
@@ -85,29 +114,32 @@ impl Search {
             }
             self.go_back(0)?;
         }
-        Ok(Guessed::Spent)
+        Ok(Course::GoesOn)
     }
 
     /// Propagates, learns and decides, up to a number of conflicts or to a value for each variable.
-    fn run_on(&mut self, conflicts: u64) -> Result<Course, NoMemory> {
+    fn run_on(&mut self, assumed: &[u32], conflicts: u64) -> Result<Course, NoMemory> {
         let mut left = conflicts;
         for _ in 0..u64::MAX {
             let conflict = self.next_conflict()?;
-            if conflict > 0 {
-                let course = self.meet_conflict(conflict)?;
+            let course = if conflict > 0 {
                 left = left.saturating_sub(1);
-                if course != Course::GoesOn || left == 0 {
-                    return Ok(course);
-                }
-            } else if !self.decide_next()? {
-                return Ok(Course::Full);
+                self.meet_conflict(conflict)?
+            } else {
+                self.decide_next(assumed)?
+            };
+            if self.is_failed {
+                return Ok(Course::Failed);
+            }
+            if course != Course::GoesOn || left == 0 {
+                return Ok(course);
             }
         }
         Ok(Course::GoesOn)
     }
 
     /// The number of a clause that is false once what follows is true, or 0.
-    fn next_conflict(&mut self) -> Result<u32, NoMemory> {
+    pub fn next_conflict(&mut self) -> Result<u32, NoMemory> {
         if self.conflict > 0 {
             return Ok(self.conflict);
         }
@@ -118,43 +150,64 @@ impl Search {
     fn meet_conflict(&mut self, conflict: u32) -> Result<Course, NoMemory> {
         if self.trail.level() == 0 {
             let learned = self.refutation(conflict)?;
-            return Ok(if self.note(learned)? {
-                Course::Refuted
-            } else {
-                Course::Failed
-            });
+            self.conflict = self.keep(learned)?;
+            return Ok(Course::None);
         }
-        Ok(if self.learn(conflict)? {
-            Course::GoesOn
-        } else {
-            Course::Failed
-        })
+        self.learn(conflict)?;
+        Ok(Course::GoesOn)
     }
 
-    /// Decides the next variable; whether there was one.
-    fn decide_next(&mut self) -> Result<bool, NoMemory> {
+    /// Decides the next literal: first those that are assumed.
+    fn decide_next(&mut self, assumed: &[u32]) -> Result<Course, NoMemory> {
+        for _ in 0..assumed.len() {
+            let Some(literal) = assumed.get(self.trail.level() as usize).copied() else {
+                break;
+            };
+            if self.trail.is_false(literal) {
+                self.refuse(literal)?;
+                return Ok(Course::None);
+            }
+            if self.trail.is_open(literal) {
+                self.trail.decide(literal)?;
+                return Ok(Course::GoesOn);
+            }
+            self.trail.begin_level()?;
+        }
+        self.decide_free()
+    }
+
+    /// Decides the next variable.
+    fn decide_free(&mut self) -> Result<Course, NoMemory> {
         for _ in 0..u32::MAX {
             let Some(variable) = self.order.pop() else {
                 break;
             };
-            let literal = variable
-                .wrapping_mul(2)
-                .wrapping_add(byte_at(&self.phases, variable) as u32);
-            if self.trail.is_open(literal) {
-                self.trail.decide(literal)?;
-                return Ok(true);
+            if self.is_left(variable) {
+                let phase = byte_at(&self.phases, variable) as u32;
+                self.trail
+                    .decide(variable.wrapping_mul(2).wrapping_add(phase))?;
+                return Ok(Course::GoesOn);
             }
         }
-        Ok(false)
+        Ok(Course::Full)
     }
 
-    /// The values of all variables.
-    fn values(&self, variables: u64) -> Result<Assignment, NoMemory> {
+    /// The values of all variables, those that were resolved away among them.
+    fn values(&mut self) -> Result<Assignment, NoMemory> {
+        self.extend_model()?;
         let mut values = Sequence::from_vec(Vec::new(self.alloc));
-        for index in 0..variables {
-            let variable = short(index as usize).wrapping_add(1);
-            values.push(self.trail.is_true(variable.wrapping_mul(2)))?;
+        for index in 1..self.removed.len() {
+            values.push(self.trail.is_true(short(index).wrapping_mul(2)))?;
         }
         Ok(values)
+    }
+
+    /// The first variables are decided as false next, and the others as in these values.
+    pub fn prefer(&mut self, values: &[bool], front: u64) {
+        for (index, value) in values.iter().enumerate() {
+            let is_false = (index as u64) < front || !*value;
+            let phase = if is_false { 1 } else { 0 };
+            put_byte(&mut self.phases, short(index).wrapping_add(1), phase);
+        }
     }
 }

@@ -99,10 +99,21 @@ impl Trail {
         Ok(())
     }
 
-    /// Decides a literal.
-    pub fn decide(&mut self, literal: u32) -> Result<(), NoMemory> {
+    /// Gives a literal that is true another reason.
+    pub fn explain(&mut self, literal: u32, reason: u32) {
+        put(&mut self.reasons, variable_of(literal), reason);
+    }
+
+    /// Begins a level with no literal.
+    pub fn begin_level(&mut self) -> Result<(), NoMemory> {
         let length = self.len();
         self.decisions.push(length)?;
+        Ok(())
+    }
+
+    /// Decides a literal.
+    pub fn decide(&mut self, literal: u32) -> Result<(), NoMemory> {
+        self.begin_level()?;
         self.assign(literal, 0)
     }
 

@@ -30,6 +30,13 @@ impl Watches {
         Ok(())
     }
 
+    /// Takes all watches away.
+    pub fn clear(&mut self) {
+        for cell in self.first.iter_mut() {
+            *cell = 0;
+        }
+    }
+
     /// How many watches there may be in a list.
     pub fn most(&self) -> usize {
         self.next.len()

@@ -3,7 +3,7 @@
 ghost use Rattle.std.specs.Prelude.{◌+◌, ◌<◌, ◌≤◌, IfOk, IfSome};
 ghost use Rattle.sat_restarts.specs.Searched.{AreBelowLimit, AreLearned, IsLeft, IsSearched};
 
-use crate::guessing::guessed_within;
+use crate::guessing::{guessed_within, guesser};
 use crate::plan::Plan;
 use crate::running::{Ended, run};
 use clause_lits::{Assignment, Cnf};
@@ -38,9 +38,10 @@ pub fn search(
 {
     let mut log: Log = Sequence::from_vec(Vec::new(alloc));
     let mut plan = Plan::new(alloc, widths, cnf.variables, limit.is_none())?;
+    let mut solver = guesser(alloc, cnf, widths, limit)?;
     'runs: for _ in 0..u64::MAX {
         let most = plan.guess_length();
-        if let Some(found) = guessed_within(alloc, cnf, widths, limit, most)? {
+        if let Some(found) = guessed_within(alloc, cnf, &mut solver, limit, most)? {
             return Ok(found);
         }
         let numbers = plan.numbers(alloc, cnf.variables)?;

@@ -1,22 +1,28 @@
 //! The search that guesses, and the check of what it says.
 
 use crate::clauses::{cnf, pigeons};
-use cdcl::{Guessed, guess};
-use clause_lits::{Clause, Cnf, holds};
+use cdcl::{Guessed, Solver};
+use clause_lits::{Clause, Cnf, Lit, holds};
 use clause_log::{Log, Step};
 use smallvec::SmallVec;
 use std::alloc::Global;
 use std::test::Fail;
-use step_ledger::refutes;
+use step_ledger::{are_sound, refutes};
 use support::{NoMemory, Sequence};
 
-/// Whether a guess within this many conflicts finds a model, or a log that refutes.
-fn is_right(alloc: Global, cnf: &Cnf, most: u64) -> Result<Option<bool>, NoMemory> {
-    match guess(alloc, cnf, &[], most)? {
+/// Whether what is guessed is right, or `None` where nothing is.
+fn is_right(
+    alloc: Global,
+    cnf: &Cnf,
+    solver: &mut Solver,
+    guessed: Guessed,
+) -> Result<Option<bool>, NoMemory> {
+    match guessed {
         Guessed::Model(values) => Ok(Some(
             values.len() as u64 == cnf.variables && holds(cnf, &values),
         )),
-        Guessed::Refuted(log) => {
+        Guessed::None => {
+            let log = solver.take_needed(cnf.clauses.len() as u64)?;
             let is_right = refutes(alloc, cnf.clauses.as_slice(), log.as_slice())?;
             Ok(Some(is_right))
         }
@@ -24,13 +30,87 @@ fn is_right(alloc: Global, cnf: &Cnf, most: u64) -> Result<Option<bool>, NoMemor
     }
 }
 
+/// Whether a guess within this many conflicts is right.
+fn is_guessed(alloc: Global, cnf: &Cnf, most: u64) -> Result<Option<bool>, NoMemory> {
+    let Some(mut solver) = Solver::of(alloc, cnf, &[])? else {
+        return Ok(None);
+    };
+    let guessed = solver.solve(&[], most)?;
+    is_right(alloc, cnf, &mut solver, guessed)
+}
+
 /// Four pigeons fit into four holes, and seven not into six; three conflicts don't suffice to tell.
 #[test]
 fn pigeons_are_guessed(rt: HostRuntime) -> Result<(), Fail> {
     let alloc = rt.alloc();
-    assert!(rt; is_right(alloc, &pigeons(alloc, 4, 4)?, 1000)? == Some(true));
-    assert!(rt; is_right(alloc, &pigeons(alloc, 7, 6)?, 100_000)? == Some(true));
-    assert!(rt; is_right(alloc, &pigeons(alloc, 7, 6)?, 3)?.is_none());
+    assert!(rt; is_guessed(alloc, &pigeons(alloc, 4, 4)?, 1000)? == Some(true));
+    assert!(rt; is_guessed(alloc, &pigeons(alloc, 7, 6)?, 100_000)? == Some(true));
+    assert!(rt; is_guessed(alloc, &pigeons(alloc, 7, 6)?, 3)?.is_none());
+    Ok(())
+}
+
+/// Four variables, each the opposite of the one before.
+fn opposites(alloc: Global) -> Result<Cnf, NoMemory> {
+    cnf(
+        alloc,
+        4,
+        1,
+        &[&[1, 2], &[-1, -2], &[2, 3], &[-2, -3], &[3, 4], &[-3, -4]],
+    )
+}
+
+/// Whether what is guessed is right once variables were resolved away.
+fn is_guessed_of_fewer(alloc: Global, cnf: &Cnf) -> Result<Option<bool>, NoMemory> {
+    let Some(mut solver) = Solver::of(alloc, cnf, &[])? else {
+        return Ok(None);
+    };
+    solver.eliminate(cnf.front)?;
+    let guessed = solver.solve(&[], 1)?;
+    is_right(alloc, cnf, &mut solver, guessed)
+}
+
+/// Variables that were resolved away have values that make the clauses true.
+#[test]
+fn variables_that_went_have_values(rt: HostRuntime) -> Result<(), Fail> {
+    let alloc = rt.alloc();
+    assert!(rt; is_guessed_of_fewer(alloc, &opposites(alloc)?)? == Some(true));
+    Ok(())
+}
+
+/// Whether the clauses are found to have no model with this literal and the last variable, by sound steps
+/// of which the last one has nothing but their opposites.
+fn is_refused(alloc: Global, cnf: &Cnf, first: Lit) -> Result<bool, NoMemory> {
+    let last = Lit {
+        variable: cnf.variables,
+        positive: true,
+    };
+    let Some(mut solver) = Solver::of(alloc, cnf, &[])? else {
+        return Ok(false);
+    };
+    let Guessed::None = solver.solve(&[first, last], 1)? else {
+        return Ok(false);
+    };
+    let log = solver.take_needed(cnf.clauses.len() as u64)?;
+    let is_sound = are_sound(alloc, cnf.clauses.as_slice(), log.as_slice())?;
+    let core = [first.opposite(), last.opposite()];
+    Ok(match log.as_slice().last() {
+        Some(step) => is_sound && step.clause.literals() == core.as_slice(),
+        None => false,
+    })
+}
+
+/// The first and the last of an even number of opposites are not both true, but may both be something
+/// else.
+#[test]
+fn assumed_literals_are_refused(rt: HostRuntime) -> Result<(), Fail> {
+    let alloc = rt.alloc();
+    let clauses = opposites(alloc)?;
+    let first = Lit {
+        variable: 1,
+        positive: true,
+    };
+    assert!(rt; is_refused(alloc, &clauses, first)?);
+    assert!(rt; !is_refused(alloc, &clauses, first.opposite())?);
     Ok(())
 }
 

@@ -1,0 +1,82 @@
+//! The steps that the last one needs.
+//!
+//! A search learns much that its answer does not rest on, and each step that is handed out is resolved
+//! again.
+
+use crate::search::Solver;
+use crate::tables::{at, byte_at, put, put_byte, short};
+use clause_log::{Log, Step};
+use support::{NoMemory, Sequence};
+
+impl Solver {
+    /// The last step and those that it needs, but for those that were taken before. They are numbered on
+    /// from this many clauses, and their chains name the given clauses and the steps that were taken by
+    /// these numbers.
+    pub fn take_needed(&mut self, clauses: u64) -> Result<Log, NoMemory> {
+        let needed = self.needed()?;
+        self.taken.resize(needed.len(), 0)?;
+        let mut log = Sequence::from_vec(Vec::new(self.alloc));
+        for index in 0..needed.len() {
+            if byte_at(&needed, short(index)) == 1 {
+                self.take_step(&mut log, index)?;
+                let number = short(log.len()).wrapping_add(short(clauses as usize));
+                put(&mut self.taken, short(index), number);
+            }
+        }
+        Ok(log)
+    }
+
+    /// 1 for each step that the last one needs and that was not taken.
+    fn needed(&self) -> Result<Vec<u8>, NoMemory> {
+        let mut needed = vec![in self.alloc; 0; self.log.len()]?;
+        put_byte(&mut needed, short(self.log.len()).wrapping_sub(1), 1);
+        for index in (0..self.log.len()).rev() {
+            if byte_at(&needed, short(index)) == 1 {
+                self.need_chain(&mut needed, index);
+            }
+        }
+        Ok(needed)
+    }
+
+    /// The steps that the chain of one names are needed, but for those that were taken.
+    fn need_chain(&self, needed: &mut [u8], index: usize) {
+        let Some(step) = self.log.as_slice().get(index) else {
+            return;
+        };
+        for number in step.chain.as_slice() {
+            let number = short(*number as usize);
+            if number > self.given {
+                let earlier = number.wrapping_sub(self.given).wrapping_sub(1);
+                if at(&self.taken, earlier) == 0 {
+                    put_byte(needed, earlier, 1);
+                }
+            }
+        }
+    }
+
+    /// Adds a step to those that are taken.
+    fn take_step(&self, log: &mut Log, index: usize) -> Result<(), NoMemory> {
+        if let Some(step) = self.log.as_slice().get(index) {
+            let chain = self.taken_chain(step.chain.as_slice())?;
+            let clause = step.clause.duplicate(self.alloc)?;
+            log.push(Step { chain, clause })?;
+        }
+        Ok(())
+    }
+
+    /// A chain by the numbers of the steps that were taken.
+    fn taken_chain(&self, chain: &[u64]) -> Result<Sequence<u64>, NoMemory> {
+        let mut numbers = Sequence::from_vec(Vec::new(self.alloc));
+        for number in chain {
+            let number = short(*number as usize);
+            let new = if number > self.given {
+                let earlier = number.wrapping_sub(self.given).wrapping_sub(1);
+                at(&self.taken, earlier)
+            } else {
+                number
+            };
+            numbers.push(new as u64)?;
+        }
+        Ok(numbers)
+    }
+}
