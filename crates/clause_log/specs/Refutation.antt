@@ -18,6 +18,10 @@ IsSound clauses log index s = chain_resolvent (standing_before clauses log index
 abbrev pub IsSoundAt : List (List Lit) → List Step → ℕ → Type 0
 IsSoundAt clauses log index = (s : Step) × (slice_get log index ≡ Some s) × IsSound clauses log index s
 
+-- each step's clause is the resolvent of its chain of earlier clauses
+abbrev pub AreSound : List (List Lit) → List Step → Type 0
+AreSound clauses log = (index : ℕ) → index < length log → IsSoundAt clauses log index
+
 -- there is a last step, and its clause is empty
 abbrev pub EndsEmpty : List Step → Type 0
 EndsEmpty log = (s : Step) × (slice_get log (length log - 1) ≡ Some s) × (s.clause ≡ [])

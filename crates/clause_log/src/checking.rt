@@ -1,7 +1,7 @@
 //! The check of a log, its steps in parallel.
 
 ghost use Rattle.std.specs.Prelude.{◌≡◌, ◌<◌, ◌↔◌, ℕ, IfOk, IfErr, OnOk, IsTrue, IfSome, length, slice_get};
-ghost use Rattle.clause_log.specs.Refutation.{EndsEmpty, IsSoundAt, Refutes};
+ghost use Rattle.clause_log.specs.Refutation.{AreSound, EndsEmpty, IsSoundAt, Refutes};
 ghost use Rattle.clause_log.specs.Verdicts.{AreVerdicts};
 ghost use Rattle.clause_log.specs.Reported.{IsReported};
 
@@ -77,6 +77,21 @@ fn verdicts(
             { is_sound_at(marks, places, clauses, log, i) },
         )
         .collect(rt, alloc)
+}
+
+/// Whether each step is the resolvent of its chain of earlier clauses. The steps are checked one after the
+/// other, each in the time that [`check_log`] says.
+pub fn are_sound(alloc: Global, clauses: &[Clause], log: &[Step]) -> Result<bool, NoMemory>
+    ensures { IfOk result (λ b. IsTrue b ↔ AreSound clauses.now log.now) }
+{
+    let places = Places::of(alloc, clauses)?;
+    let mut marks = Marks::new(alloc, places.room());
+    for index in 0..log.len() {
+        if !is_sound_at(&mut marks, &places, clauses, log, index)? {
+            return Ok(false);
+        }
+    }
+    Ok(true)
 }
 
 /// Whether the step is the resolvent of its chain of earlier clauses.

@@ -16,7 +16,7 @@ mod resolver;
 mod step;
 
 pub use chains::{chain_resolvent, clause_numbered};
-pub use checking::{LogFault, check_log};
+pub use checking::{LogFault, are_sound, check_log};
 pub use laws::{refuted_has_no_model, resolvent_is_exact};
 pub use resolver::resolve;
 pub use step::{Cert, Log, Step};

@@ -3,11 +3,11 @@
 use crate::clauses::{cnf, pigeons};
 use cdcl::{Guessed, Solver};
 use clause_lits::{Clause, Cnf, Lit, holds};
-use clause_log::{Log, Step};
+use clause_log::{Log, Step, are_sound};
 use smallvec::SmallVec;
 use std::alloc::Global;
 use std::test::Fail;
-use step_ledger::{are_sound, refutes};
+use step_ledger::refutes;
 use support::{NoMemory, Sequence};
 
 /// Whether what is guessed is right, or `None` where nothing is.

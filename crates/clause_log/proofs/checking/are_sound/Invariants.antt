@@ -1,6 +1,6 @@
 use Rattle.std.proofs.Common.{ℕ, ◌<◌}
 use Rattle.clause_log.specs.Refutation.{IsSoundAt}
-use Rattle.step_ledger.proofs.ledger.are_sound.Given as goal
+use Rattle.clause_log.proofs.checking.are_sound.Given as goal
 
 -- the steps so far are sound
 abbrev pub invariant-loop-index : goal.invariant-loop-index

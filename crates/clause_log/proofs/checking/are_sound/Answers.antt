@@ -1,7 +1,7 @@
 use Rattle.std.proofs.Common.{inl, inr, ◌≡◌, arith, subst}
 use Rattle.std.proofs.lemmas.Bool.{cases_lt}
 use Rattle.clause_log.specs.Refutation.{IsSoundAt}
-use Rattle.step_ledger.proofs.ledger.are_sound.Goals as goal
+use Rattle.clause_log.proofs.checking.are_sound.Goals as goal
 
 pub loop-index-preserved : goal.loop-index-preserved
 loop-index-preserved c = λ i lt. elim (cases_lt i c.loop-index.index) [
