@@ -37,9 +37,11 @@ mod shifts;
 mod shrinking;
 mod signed_divisions;
 mod widths;
+mod wrapping;
 
 pub use builders::{
     add, and, ashr, concat, constant, eq, extract, ite, lshr, mul, not, or, sext, shl, slt, sub,
     udiv, ult, urem, variable, xor, zext,
 };
 pub use possible::may_be;
+pub use wrapping::{udiv_where, urem_where};
