@@ -6,6 +6,7 @@
 //! operations, one over the other (`factors`, `low_bits`, `magnitudes`, `shrinking`,
 //! `signed_divisions`), it finds their operands first and makes both by rules. The rules are those
 //! that solvers of bit vectors rewrite by (Bitwuzla, CAV 2023; Z3's rewriter; LLVM's InstCombine).
+//! The divisions of `wrapping` have their value only where a condition is false, that of poison.
 //! It uses `bv_terms`, and `known_values` for operations on known numbers and for weights; the
 //! encoding of runs uses it.
 #![tactic(auto)]
