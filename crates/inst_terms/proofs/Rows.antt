@@ -1,5 +1,7 @@
 -- The rows that need no arithmetic, and the whole table from them.
-use Rattle.inst_terms.proofs.Common.{ℕ, ◌≡◌, ◌<◌, ◌/◌, ◌%◌, ◌^◌, Bool, true, false, not, ◌&&◌, ◌||◌, nat_eq, Some, inl, inr, bit_and, bit_or, bit_xor, refl, ap, sym, ◌∙◌, cases_Bool, mod-mod, mod-eq_of_lt, Op, Add, Sub, Mul, UnsignedDiv, UnsignedRem, SignedDiv, SignedRem, ShiftLeft, LogicalShiftRight, ArithmeticShiftRight, And, Or, Xor, Num, quotient, remainder, poison_if, is_zero_or_poison, is_minus_1, is_least_or_poison, is_undefined, defined_result, value_result, value_from, option_from, row_of}
+use Rattle.std.proofs.Common.{pos_of_ne-zero}
+use Rattle.std.proofs.lemmas.Bool.{eqb-false}
+use Rattle.inst_terms.proofs.Common.{ℕ, ◌≡◌, ◌<◌, ◌≤◌, ◌/◌, ◌%◌, ◌^◌, Bool, true, false, not, ◌&&◌, ◌||◌, nat_eq, Some, inl, inr, bit_and, bit_or, bit_xor, refl, ap, sym, ◌∙◌, cases_Bool, mod-mod, mod-eq_of_lt, Op, Add, Sub, Mul, UnsignedDiv, UnsignedRem, SignedDiv, SignedRem, ShiftLeft, LogicalShiftRight, ArithmeticShiftRight, And, Or, Xor, Num, quotient, remainder, poison_if, is_zero_or_poison, is_minus_1, is_least_or_poison, is_undefined, defined_result, value_result, value_from, option_from, row_of}
 
 pub from_is-if : (p : Bool) (x : ℕ) → value_from p x ≡ poison_if p (Num x)
 from_is-if true x = refl
@@ -20,6 +22,9 @@ xor_is n a b = refl
 
 pub some-divisor : (n b : ℕ) → b < 2 ^ n → is_zero_or_poison n (Num b) ≡ false → nat_eq b 0 ≡ false
 some-divisor n b lt e = ap (λ k. nat_eq k 0) (sym (mod-eq_of_lt lt)) ∙ e
+
+pub divisor-positive : (n b : ℕ) → b < 2 ^ n → is_zero_or_poison n (Num b) ≡ false → 1 ≤ b
+divisor-positive n b lt e = pos_of_ne-zero (eqb-false b 0 (some-divisor n b lt e))
 
 pub quotient_is : (exact : Bool) (n a b : ℕ) → b < 2 ^ n → is_undefined (UnsignedDiv exact) n (Num a) (Num b) ≡ false
     → value_from (exact && not (nat_eq (remainder a b) 0)) (quotient n a b) ≡ row_of (UnsignedDiv exact) n a b
@@ -58,14 +63,14 @@ undefined-cut (Or disjoint) n p q x y = refl
 undefined-cut Xor n p q x y = refl
 
 defined-cut : (op : Op) (n : ℕ) (p q r : Bool) (x y z : ℕ) → is_undefined op n (value_from p x) (value_from q y) ≡ false
-    → (is_undefined op n (Num (x % 2 ^ n)) (Num (y % 2 ^ n)) ≡ false → value_from r z ≡ row_of op n (x % 2 ^ n) (y % 2 ^ n))
+    → ((p || q) ≡ false → is_undefined op n (Num (x % 2 ^ n)) (Num (y % 2 ^ n)) ≡ false → value_from r z ≡ row_of op n (x % 2 ^ n) (y % 2 ^ n))
     → value_from ((p || q) || r) z ≡ defined_result op n (value_from p x) (value_from q y)
 defined-cut op n true q r x y z e h = refl
 defined-cut op n false true r x y z e h = refl
-defined-cut op n false false r x y z e h = h (undefined-cut op n false false x y ∙ e)
+defined-cut op n false false r x y z e h = h refl (undefined-cut op n false false x y ∙ e)
 
 pub binary_is : (op : Op) (n : ℕ) (p q u r : Bool) (x y z : ℕ) → u ≡ is_undefined op n (value_from p (x % 2 ^ n)) (value_from q (y % 2 ^ n))
-    → (is_undefined op n (Num (x % 2 ^ n)) (Num (y % 2 ^ n)) ≡ false → value_from r z ≡ row_of op n (x % 2 ^ n) (y % 2 ^ n))
+    → ((p || q) ≡ false → is_undefined op n (Num (x % 2 ^ n)) (Num (y % 2 ^ n)) ≡ false → value_from r z ≡ row_of op n (x % 2 ^ n) (y % 2 ^ n))
     → option_from u (value_from ((p || q) || r) z) ≡ value_result op n (value_from p x) (value_from q y)
 binary_is op n p q u r x y z e h =
     let whole : u ≡ is_undefined op n (value_from p x) (value_from q y) = e ∙ undefined-cut op n p q x y in

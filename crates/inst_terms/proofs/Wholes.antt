@@ -35,38 +35,43 @@ operands-later old g1 g2 new n left right a b hl hr k1 ea ma k2 eb mb k3 =
 three : {p p' q q' r r' : Bool} → p ≡ p' → q ≡ q' → r ≡ r' → ((p || q) || r) ≡ ((p' || q') || r')
 three e f g = cc
 
-pub binary-stands : (old g1 g2 g3 g4 g5 g6 : List Term) (op : Op) (n : ℕ) (left right : SymNumber) (a b row : NarrowValue) (undefined poison : TermId) (value : SymNumber) → IsSymNumber old left → IsSymNumber old right
+two : {p p' q q' : Bool} → p ≡ p' → q ≡ q' → (p || q) ≡ (p' || q')
+two e f = cc
+
+pub binary-stands : (old g1 g2 g3 g4 g5 g6 g7 : List Term) (op : Op) (n : ℕ) (left right : SymNumber) (a b row : NarrowValue) (undefined operands poison : TermId) (value : SymNumber) → IsSymNumber old left → IsSymNumber old right
     → Keeps old g1 → a.poison ≡ left.poison → Makes g1 a.number n (λ v. term_at v old left.number % 2 ^ n)
     → Keeps g1 g2 → b.poison ≡ right.poison → Makes g2 b.number n (λ v. term_at v g1 right.number % 2 ^ n)
     → Keeps g2 g3 → Tests g3 undefined (λ v. is_undefined op n (narrow_at v g2 a) (narrow_at v g2 b))
-    → Keeps g3 g4 → IsNarrow g4 n row → IsRow g3 g4 op n a.number b.number row
-    → Keeps g4 g5 → Tests g5 poison (λ v. (bit_at v g4 a.poison || bit_at v g4 b.poison) || bit_at v g4 row.poison)
-    → Keeps g5 g6 → ((v : ℕ → ℕ → ℕ) → number_at v g6 value ≡ narrow_at v g5 (record { poison = poison; number = row.number }))
-    → (v : ℕ → ℕ → ℕ) → option_from (bit_at v g6 undefined) (number_at v g6 value) ≡ value_result op n (number_at v old left) (number_at v old right)
+    → Keeps g3 g4 → Tests g4 operands (λ v. bit_at v g3 a.poison || bit_at v g3 b.poison)
+    → Keeps g4 g5 → IsNarrow g5 n row → IsRow g4 g5 op operands n a.number b.number row
+    → Keeps g5 g6 → Tests g6 poison (λ v. bit_at v g5 operands || bit_at v g5 row.poison)
+    → Keeps g6 g7 → ((v : ℕ → ℕ → ℕ) → number_at v g7 value ≡ narrow_at v g6 (record { poison = poison; number = row.number }))
+    → (v : ℕ → ℕ → ℕ) → option_from (bit_at v g7 undefined) (number_at v g7 value) ≡ value_result op n (number_at v old left) (number_at v old right)
 unfolding number_at
-binary-stands old g1 g2 g3 g4 g5 g6 op n left right a b row undefined poison value hl hr k1 ea ma k2 eb mb k3 tu k4 hw is k5 tp k6 sv v =
+binary-stands old g1 g2 g3 g4 g5 g6 g7 op n left right a b row undefined operands poison value hl hr k1 ea ma k2 eb mb k3 tu k4 to k5 hw is k6 tp k7 sv v =
     let k22 = keeps_self g2 in
     let o2 = operands-later old g1 g2 g2 n left right a b hl hr k1 ea ma k2 eb mb k22 in
     let o3 = operands-later old g1 g2 g3 n left right a b hl hr k1 ea ma k2 eb mb k3 in
     let k24 = keeps_trans g2 g3 g4 k3 k4 in
     let o4 = operands-later old g1 g2 g4 n left right a b hl hr k1 ea ma k2 eb mb k24 in
-    let k36 = keeps_trans g3 g4 g6 k4 (keeps_trans g4 g5 g6 k5 k6) in
+    let k37 = keeps_trans g3 g4 g7 k4 (keeps_trans g4 g5 g7 k5 (keeps_trans g5 g6 g7 k6 k7)) in
     let p = bit_at v old left.poison in
     let q = bit_at v old right.poison in
     let x = term_at v old left.number in
     let y = term_at v old right.number in
     let first : narrow_at v g2 a ≡ value_from p (x % 2 ^ n) = ap (λ t. value_from t (term_at v g2 a.number)) (o2.first_poison v) ∙ ap (value_from p) (o2.first_number v) in
     let second : narrow_at v g2 b ≡ value_from q (y % 2 ^ n) = ap (λ t. value_from t (term_at v g2 b.number)) (o2.second_poison v) ∙ ap (value_from q) (o2.second_number v) in
-    let never : bit_at v g6 undefined ≡ is_undefined op n (value_from p (x % 2 ^ n)) (value_from q (y % 2 ^ n)) =
-    bit-later g3 g6 k36 v undefined tu.within ∙ (tu.says v ∙ (ap (λ z. is_undefined op n z (narrow_at v g2 b)) first ∙ ap (is_undefined op n (value_from p (x % 2 ^ n))) second)) in
-    let stands : is_undefined op n (Num (x % 2 ^ n)) (Num (y % 2 ^ n)) ≡ false → narrow_at v g4 row ≡ row_of op n (x % 2 ^ n) (y % 2 ^ n) =
-    subst (λ j. is_undefined op n (Num (x % 2 ^ n)) (Num j) ≡ false → narrow_at v g4 row ≡ row_of op n (x % 2 ^ n) j) (o3.second_number v)
-    (subst (λ i. is_undefined op n (Num i) (Num (term_at v g3 b.number)) ≡ false → narrow_at v g4 row ≡ row_of op n i (term_at v g3 b.number)) (o3.first_number v) (is v)) in
-    let any : bit_at v g5 poison ≡ ((p || q) || bit_at v g4 row.poison) = tp.says v ∙ three (o4.first_poison v) (o4.second_poison v) refl in
-    let whole : narrow_at v g5 (record { poison = poison; number = row.number }) ≡ value_from ((p || q) || bit_at v g4 row.poison) (term_at v g4 row.number) =
-    ap (λ t. value_from t (term_at v g5 row.number)) any ∙ ap (value_from ((p || q) || bit_at v g4 row.poison)) (term-later g4 g5 k5 v row.number hw.number.within) in
-    ap (option_from (bit_at v g6 undefined)) (sv v ∙ whole)
-    ∙ binary_is op n p q (bit_at v g6 undefined) (bit_at v g4 row.poison) x y (term_at v g4 row.number) never stands
+    let never : bit_at v g7 undefined ≡ is_undefined op n (value_from p (x % 2 ^ n)) (value_from q (y % 2 ^ n)) =
+    bit-later g3 g7 k37 v undefined tu.within ∙ (tu.says v ∙ (ap (λ z. is_undefined op n z (narrow_at v g2 b)) first ∙ ap (is_undefined op n (value_from p (x % 2 ^ n))) second)) in
+    let either : bit_at v g4 operands ≡ (p || q) = to.says v ∙ two (o3.first_poison v) (o3.second_poison v) in
+    let stands : (p || q) ≡ false → is_undefined op n (Num (x % 2 ^ n)) (Num (y % 2 ^ n)) ≡ false → narrow_at v g5 row ≡ row_of op n (x % 2 ^ n) (y % 2 ^ n) = λ d.
+    subst (λ j. is_undefined op n (Num (x % 2 ^ n)) (Num j) ≡ false → narrow_at v g5 row ≡ row_of op n (x % 2 ^ n) j) (o4.second_number v)
+    (subst (λ i. is_undefined op n (Num i) (Num (term_at v g4 b.number)) ≡ false → narrow_at v g5 row ≡ row_of op n i (term_at v g4 b.number)) (o4.first_number v) (is v (either ∙ d))) in
+    let any : bit_at v g6 poison ≡ ((p || q) || bit_at v g5 row.poison) = tp.says v ∙ ap (λ t. t || bit_at v g5 row.poison) (bit-later g4 g5 k5 v operands to.within ∙ either) in
+    let whole : narrow_at v g6 (record { poison = poison; number = row.number }) ≡ value_from ((p || q) || bit_at v g5 row.poison) (term_at v g5 row.number) =
+    ap (λ t. value_from t (term_at v g6 row.number)) any ∙ ap (value_from ((p || q) || bit_at v g5 row.poison)) (term-later g5 g6 k6 v row.number hw.number.within) in
+    ap (option_from (bit_at v g7 undefined)) (sv v ∙ whole)
+    ∙ binary_is op n p q (bit_at v g7 undefined) (bit_at v g5 row.poison) x y (term_at v g5 row.number) never stands
 
 -- ---- comparisons
 

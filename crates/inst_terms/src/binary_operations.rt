@@ -8,7 +8,7 @@ ghost use Rattle.inst_terms.specs.Narrow.{IsNarrow};
 ghost use Rattle.inst_terms.specs.Rows.{IsRow};
 
 use crate::bitwise::{conjunction, disjunction, exclusive_disjunction};
-use crate::narrow::{NarrowValue, is_any_poison, narrowed, widened};
+use crate::narrow::{NarrowValue, narrowed, widened};
 use crate::products::product;
 use crate::quotients::{signed_quotient, signed_remainder, unsigned_quotient, unsigned_remainder};
 use crate::shifts::{arithmetic_shift_right, logical_shift_right, shift_left};
@@ -16,7 +16,7 @@ use crate::sums::{difference, sum};
 use crate::undefined::is_undefined;
 use bv_terms::{TermId, Terms};
 use ir_tree::Op;
-use mem_terms::SymNumber;
+use mem_terms::{SymNumber, either};
 use support::NoMemory;
 use tv_num::Width;
 
@@ -27,18 +27,20 @@ pub struct Computed {
     pub value: SymNumber,
 }
 
-/// The operation on numbers of its width, where it is defined.
+/// The operation on numbers of its width, where it is defined and no operand is poison.
 fn on_numbers(
     terms: &mut Terms,
     op: Op,
+    poison: TermId,
     a: TermId,
     b: TermId,
     width: Width,
 ) -> Result<NarrowValue, NoMemory>
+    requires poison { IsTerm terms.old 1 poison }
     requires a { IsTerm terms.old width.bits a }
     requires b { IsTerm terms.old width.bits b }
     ensures made { IfOk result (IsNarrow terms.new width.bits) }
-    ensures stands { IfOk result (IsRow terms.old terms.new op width.bits a b) }
+    ensures stands { IfOk result (IsRow terms.old terms.new op poison width.bits a b) }
     ensures kept { Keeps terms.old terms.new }
 {
     terms.values_fit();
@@ -56,11 +58,11 @@ fn on_numbers(
             Ok(product)
         }
         Op::UnsignedDiv { exact } => {
-            let quotient = unsigned_quotient(terms, exact, a, b, width)?;
+            let quotient = unsigned_quotient(terms, exact, poison, a, b, width)?;
             Ok(quotient)
         }
         Op::UnsignedRem => {
-            let remainder = unsigned_remainder(terms, a, b, width)?;
+            let remainder = unsigned_remainder(terms, poison, a, b, width)?;
             Ok(remainder)
         }
         Op::SignedDiv { exact } => {
@@ -118,8 +120,9 @@ pub fn binary(
     let a = narrowed(terms, left, width)?;
     let b = narrowed(terms, right, width)?;
     let undefined = is_undefined(terms, op, a, b, width)?;
-    let row = on_numbers(terms, op, a.number, b.number, width)?;
-    let poison = is_any_poison(terms, a.poison, b.poison, row.poison)?;
+    let operands = either(terms, a.poison, b.poison)?;
+    let row = on_numbers(terms, op, operands, a.number, b.number, width)?;
+    let poison = either(terms, operands, row.poison)?;
     let number = row.number;
     let value = widened(terms, NarrowValue { poison, number }, width)?;
     Ok(Computed { undefined, value })

@@ -2,7 +2,7 @@
 //! Instruction", "srem Instruction"). What they give where the divisor is 0 does not matter. Those
 //! of numbers in two's complement are those of their magnitudes, with a sign.
 
-ghost use Rattle.std.specs.Prelude.{◌&&◌, not, false, IfOk, nat_eq};
+ghost use Rattle.std.specs.Prelude.{◌≡◌, ◌≤◌, ◌&&◌, ℕ, not, false, IfOk, nat_eq};
 ghost use Rattle.bv_terms.specs.Tree.{quotient, remainder};
 ghost use Rattle.bv_terms.specs.Trees.{IsTerm, Keeps, Makes, Tests, bit_at, term_at};
 ghost use Rattle.points.specs.Table.{have_two_signs, is_negative};
@@ -13,7 +13,7 @@ use crate::signs::{sign, signs_differ};
 use bv_terms::{TermId, Terms};
 use mem_terms::{pick, truth};
 use support::NoMemory;
-use term_rules::{constant, sub, udiv, urem};
+use term_rules::{constant, sub, udiv, udiv_where, urem, urem_where};
 use tv_num::Width;
 
 /// Where the flag is set, whether the division leaves a remainder.
@@ -37,41 +37,56 @@ fn leaves_a_rest_where(
     }
 }
 
-/// The quotient of unsigned numbers.
+/// The quotient of unsigned numbers, where the condition is false: an operand is poison where it is
+/// true.
 pub fn unsigned_quotient(
     terms: &mut Terms,
     exact: bool,
+    poison: TermId,
     a: TermId,
     b: TermId,
     width: Width,
 ) -> Result<NarrowValue, NoMemory>
+    requires poison { IsTerm terms.old 1 poison }
     requires a { IsTerm terms.old width.bits a }
     requires b { IsTerm terms.old width.bits b }
-    ensures number { IfOk result (λ s. Makes terms.new s.number width.bits (λ v. quotient width.bits (term_at v terms.old a) (term_at v terms.old b))) }
+    ensures made { IfOk result (λ s. IsTerm terms.new width.bits s.number) }
+    ensures number { IfOk result (λ s. (v : ℕ → ℕ → ℕ) → bit_at v terms.old poison ≡ false → 1 ≤ term_at v terms.old b
+        → term_at v terms.new s.number ≡ quotient width.bits (term_at v terms.old a) (term_at v terms.old b)) }
     ensures poison { IfOk result (λ s. Tests terms.new s.poison (λ v. exact && not (nat_eq (remainder (term_at v terms.old a) (term_at v terms.old b)) 0))) }
     ensures kept { Keeps terms.old terms.new }
 {
-    let number = udiv(terms, a, b)?;
-    let poison = leaves_a_rest_where(terms, exact, a, b, width)?;
-    Ok(NarrowValue { poison, number })
+    let number = udiv_where(terms, poison, a, b)?;
+    let rest = leaves_a_rest_where(terms, exact, a, b, width)?;
+    Ok(NarrowValue {
+        poison: rest,
+        number,
+    })
 }
 
-/// The remainder of unsigned numbers.
+/// The remainder of unsigned numbers, where the condition is false.
 pub fn unsigned_remainder(
     terms: &mut Terms,
+    poison: TermId,
     a: TermId,
     b: TermId,
     width: Width,
 ) -> Result<NarrowValue, NoMemory>
+    requires poison { IsTerm terms.old 1 poison }
     requires a { IsTerm terms.old width.bits a }
     requires b { IsTerm terms.old width.bits b }
-    ensures number { IfOk result (λ s. Makes terms.new s.number width.bits (λ v. remainder (term_at v terms.old a) (term_at v terms.old b))) }
+    ensures made { IfOk result (λ s. IsTerm terms.new width.bits s.number) }
+    ensures number { IfOk result (λ s. (v : ℕ → ℕ → ℕ) → bit_at v terms.old poison ≡ false
+        → term_at v terms.new s.number ≡ remainder (term_at v terms.old a) (term_at v terms.old b)) }
     ensures poison { IfOk result (λ s. Tests terms.new s.poison (λ _. false)) }
     ensures kept { Keeps terms.old terms.new }
 {
-    let number = urem(terms, a, b)?;
-    let poison = truth(terms, false)?;
-    Ok(NarrowValue { poison, number })
+    let number = urem_where(terms, poison, a, b)?;
+    let never = truth(terms, false)?;
+    Ok(NarrowValue {
+        poison: never,
+        number,
+    })
 }
 
 /// The number, or its opposite where the condition is true.

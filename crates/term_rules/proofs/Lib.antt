@@ -18,3 +18,4 @@ pub mod BoundRules
 pub mod DivisionRules
 pub mod MagnitudeRules
 pub mod SignedRules
+pub mod WrappingRules

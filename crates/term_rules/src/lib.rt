@@ -6,6 +6,7 @@
 //! operations, one over the other (`factors`, `low_bits`, `magnitudes`, `shrinking`,
 //! `signed_divisions`), it finds their operands first and makes both by rules. The rules are those
 //! that solvers of bit vectors rewrite by (Bitwuzla, CAV 2023; Z3's rewriter; LLVM's InstCombine).
+//! The divisions of `wrapping` have their value only where a condition is false, that of poison.
 //! It uses `bv_terms`, and `known_values` for operations on known numbers and for weights; the
 //! encoding of runs uses it.
 #![tactic(auto)]
@@ -37,9 +38,11 @@ mod shifts;
 mod shrinking;
 mod signed_divisions;
 mod widths;
+mod wrapping;
 
 pub use builders::{
     add, and, ashr, concat, constant, eq, extract, ite, lshr, mul, not, or, sext, shl, slt, sub,
     udiv, ult, urem, variable, xor, zext,
 };
 pub use possible::may_be;
+pub use wrapping::{udiv_where, urem_where};
