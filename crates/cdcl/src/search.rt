@@ -203,11 +203,13 @@ impl Solver {
     }
 
     /// The first variables are decided as false next, and the others as in these values.
-    pub fn prefer(&mut self, values: &[bool], front: u64) {
+    pub fn prefer(&mut self, values: &[bool], front: u64) -> Result<(), NoMemory> {
+        self.go_back(0)?;
         for (index, value) in values.iter().enumerate() {
             let is_false = (index as u64) < front || !*value;
             let phase = if is_false { 1 } else { 0 };
             put_byte(&mut self.phases, short(index).wrapping_add(1), phase);
         }
+        Ok(())
     }
 }

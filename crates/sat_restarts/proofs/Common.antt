@@ -9,11 +9,11 @@ pub use Rattle.clause_lits.specs.declared.lit.Lit.{Lit}
 pub use Rattle.clause_log.proofs.Soundness.{standing-true, refuted-false}
 pub use Rattle.clause_log.specs.Chain.{chain_resolvent, clause_numbered, resolved_along}
 pub use Rattle.clause_log.specs.Members.{Has}
-pub use Rattle.clause_log.specs.Refutation.{Refutes, IsSoundAt, EndsEmpty, standing_before}
+pub use Rattle.clause_log.specs.Refutation.{AreSound, Refutes, IsSoundAt, EndsEmpty, standing_before}
 pub use Rattle.clause_log.specs.declared.step.Step.{Step}
 pub use Rattle.clause_search.specs.Outcome.{IsAnswer, IsCareful, IsLeast, IsSpent, IsLess}
 pub use Rattle.clause_search.specs.Searching.{standing, AreInRange}
 pub use Rattle.clause_search.specs.declared.answer.Answer.{Answer}
 pub use Rattle.cnf_renumber.specs.Renumbered.{AreClauses, AreMappedBack, IsRenumbering, renumbered, renumbered_log, renumbered_literal}
 pub use Rattle.sat_restarts.specs.Searched.{AreLearned, IsSearched, AreBelowLimit}
-pub use Rattle.sat_restarts.specs.Settled.{Agree, IsSettled}
+pub use Rattle.sat_restarts.specs.Settled.{Agree, IsExtended, IsSettled}

@@ -1,5 +1,5 @@
 -- One more bit of a least model is settled.
-use Rattle.sat_restarts.proofs.Common.{ℕ, ◌≡◌, ◌+◌, ◌-◌, ◌++◌, ◌⊎◌, inl, inr, Bool, true, false, List, [], ◌∷◌, length, length-append, get_or, take, arith, sym, subst, refl, ap, ◌∙◌, take-append_seam, cases_eq, true≢false, Lit, IsModel, clauses_true, values_of, Step, Refutes, refuted-false, standing-true, IsLess, standing, AreLearned, Agree, IsSettled}
+use Rattle.sat_restarts.proofs.Common.{ℕ, ◌≡◌, ◌+◌, ◌-◌, ◌++◌, ◌⊎◌, inl, inr, Bool, true, false, List, [], ◌∷◌, length, length-append, get_or, take, arith, sym, subst, refl, ap, ◌∙◌, take-append_seam, cases_eq, true≢false, Lit, IsModel, clauses_true, values_of, Step, Refutes, refuted-false, standing-true, IsLess, standing, AreLearned, Agree, IsExtended, IsSettled}
 use Rattle.clause_lits.specs.declared.cnf.Cnf.{Cnf}
 use Rattle.sat_restarts.proofs.Models.{model-standing, true-both, true-left, true-right}
 
@@ -149,17 +149,33 @@ module _ (question cnf : Cnf) (n : ℕ) (values : List Bool) (settled : IsSettle
       let t = true-both (values_of others) cnf.clauses (unit_of n false) (settled.whole others model agree) (unit-true others n false zero) in
       refuted-false (values_of others) asked.clauses log refuted (subst (λ (cs : List (List Lit)). clauses_true (values_of others) cs ≡ true) (sym was) t))
 
-  -- clauses that are learned from them
-  pub settled-learned : (more : Cnf) (log : List Step) → AreLearned cnf.clauses log → more.variables ≡ cnf.variables → more.clauses ≡ standing cnf.clauses log → IsSettled question n more values
-  settled-learned more log learned same is = record {
-    variables = same ∙ settled.variables;
+  -- clauses that are resolved from them
+  pub settled-extended : (more : Cnf) → IsExtended cnf more → IsSettled question n more values
+  settled-extended more extended = record {
+    variables = extended.variables ∙ settled.variables;
     model = settled.model;
     least = settled.least;
-    part = λ others model. settled.part others (model-standing question.variables cnf.clauses log others (subst (λ (cs : List (List Lit)). IsModel question.variables cs others) is model));
+    part = λ others model.
+        settled.part others
+        (model-standing question.variables cnf.clauses extended.steps others
+        (subst (λ (cs : List (List Lit)). IsModel question.variables cs others) extended.clauses model));
     whole = λ others model agree.
-        subst (λ (cs : List (List Lit)). clauses_true (values_of others) cs ≡ true) (sym is)
-        (standing-true (values_of others) cnf.clauses log learned.careful.sound (settled.whole others model agree));
+        subst (λ (cs : List (List Lit)). clauses_true (values_of others) cs ≡ true) (sym extended.clauses)
+        (standing-true (values_of others) cnf.clauses extended.steps extended.sound (settled.whole others model agree));
   }
+
+-- no steps, or some
+pub extended_none : (cnf : Cnf) → IsExtended cnf cnf
+extended_none cnf = record {
+  variables = refl;
+  steps = [];
+  sound = λ i lt. absurd (omega (arith, lt));
+  clauses = sym (append-none cnf.clauses);
+}
+  where
+    append-none : (cs : List (List Lit)) → cs ++ [] ≡ cs
+    append-none [] = refl
+    append-none (c ∷ cs) = ap (λ (ds : List (List Lit)). c ∷ ds) (append-none cs)
 
 -- nothing is settled at first
 pub settled-none : (question cnf : Cnf) (values : List Bool) (log : List Step) → AreLearned question.clauses log → cnf.variables ≡ question.variables → cnf.clauses ≡ standing question.clauses log

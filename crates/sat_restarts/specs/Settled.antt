@@ -2,7 +2,10 @@
 use Rattle.std.specs.Prelude.{ℕ, ◌≡◌, ◌<◌, Bool, true, false, List, slice_index_or}
 use Rattle.clause_lits.specs.declared.cnf.Cnf.{Cnf}
 use Rattle.clause_lits.specs.Meaning.{IsModel, clauses_true, values_of}
+use Rattle.clause_log.specs.declared.step.Step.{Step}
 use Rattle.clause_search.specs.Outcome.{IsLess}
+use Rattle.clause_search.specs.Searching.{standing}
+use Rattle.clause_log.specs.Refutation.{AreSound}
 
 -- the first n bits are the same
 abbrev pub Agree : ℕ → List Bool → List Bool → Type 0
@@ -19,3 +22,10 @@ pub record IsSettled (question : Cnf) (n : ℕ) (cnf : Cnf) (values : List Bool)
       → IsModel question.variables question.clauses others × Agree n others values
   pub whole : (others : List Bool) → IsModel question.variables question.clauses others
       → Agree n others values → clauses_true (values_of others) cnf.clauses ≡ true
+
+-- the clauses, and then some that are resolved from them
+pub record IsExtended (cnf more : Cnf) : Type 0 where
+  pub variables : more.variables ≡ cnf.variables
+  pub steps : List Step
+  pub sound : AreSound cnf.clauses steps
+  pub clauses : more.clauses ≡ standing cnf.clauses steps

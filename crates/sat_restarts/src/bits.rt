@@ -1,18 +1,28 @@
 //! The least model bit by bit.
+//!
+//! One solver is asked for all bits: for each whether it can be 0, under the assumption that those before
+//! are as they were settled. A model is tried. Where there is none, the steps of the solver are resolved
+//! again and stay among the clauses, and the last one, whose literals are opposites of assumed ones, has
+//! to be refuted by the clauses of these.
 
-ghost use Rattle.std.specs.Prelude.{◌≡◌, ◌+◌, ◌++◌, ◌∷◌, [], ◌<◌, ◌≤◌, ◌-◌, IfOk, OnOk, length, map, take};
+ghost use Rattle.std.specs.Prelude.{◌≡◌, ◌+◌, ◌++◌, ◌∷◌, [], ◌<◌, ◌≤◌, ◌-◌, IfOk, IfSome, IsTrue, OnOk, List, None, length, map, take};
 ghost use Rattle.clause_lits.specs.Meaning.{IsModel};
+ghost use Rattle.clause_log.specs.Refutation.{AreSound, Refutes};
+ghost use Rattle.clause_log.specs.declared.step.Step.{Step as SpecStep};
 ghost use Rattle.clause_search.specs.Outcome.{IsLeast};
 ghost use Rattle.clause_search.specs.Searching.{standing};
 ghost use Rattle.sat_restarts.specs.Searched.{AreLearned};
-ghost use Rattle.sat_restarts.specs.Settled.{IsSettled};
+ghost use Rattle.sat_restarts.specs.Settled.{IsExtended, IsSettled};
 
+use crate::asking::Asking;
 use crate::running::with_steps;
 use crate::searching::{Searched, search};
-use clause_lits::{Assignment, Clause, Cnf, Lit};
-use clause_log::{Log, Step};
+use cdcl::Guessed;
+use clause_lits::{Assignment, Clause, Cnf, Lit, holds};
+use clause_log::{Log, Step, are_sound};
 use smallvec::SmallVec;
 use std::alloc::Global;
+use step_ledger::refutes;
 use support::{NoMemory, Sequence};
 
 /// A model, and clauses whose models are those that agree with it in the bits settled so far.
@@ -22,8 +32,25 @@ struct Settled {
     values: Assignment,
 }
 
+/// What is guessed of a bit as 0.
+#[derive(Drop)]
+enum Guess {
+    /// A model has it so.
+    Model(Assignment),
+    /// None has, by this log.
+    Refuted(Log),
+    Nothing,
+}
+
+/// What is guessed of a bit as 0, and the clauses with those that were learned from them.
+#[derive(Drop)]
+struct Asked {
+    cnf: Cnf,
+    guess: Guess,
+}
+
 /// The least model on the ordered variables, from a model and learned clauses. With the bits before
-/// settled, a bit is 0 where a model has it so: the last model found, or one that a search finds.
+/// settled, a bit is 0 where a model has it so: the last model found, or one that is found then.
 pub fn least_by_bits(
     alloc: Global,
     cnf: &Cnf,
@@ -35,12 +62,16 @@ pub fn least_by_bits(
     requires learned { AreLearned cnf.now.clauses learned }
     ensures { IfOk result (IsLeast cnf.now.variables cnf.now.front cnf.now.clauses) }
 {
+    let mut asking = Asking::new(alloc, cnf, widths, &values)?;
     let mut settled = Settled {
         cnf: with_steps(alloc, cnf, learned.as_slice())?,
         values,
     };
     for bit in 0..cnf.front {
-        settled = settle(alloc, cnf, widths, settled, bit)?;
+        settled = settle(alloc, cnf, widths, &mut asking, settled, bit)?;
+        let value = settled.values.as_slice().get(bit as usize);
+        let positive = value.copied().unwrap_or(false);
+        asking.settle(positive, settled.cnf.clauses.len())?;
     }
     Ok(settled.values)
 }
@@ -51,6 +82,7 @@ fn settle(
     alloc: Global,
     question: &Cnf,
     widths: &[u32],
+    asking: &mut Asking,
     settled: Settled,
     bit: u64,
 ) -> Result<Settled, NoMemory>
@@ -63,21 +95,96 @@ fn settle(
         variable: bit + 1,
         positive: false,
     };
-    let cnf = with_literal(alloc, cnf, zero)?;
     if !*values.get(bit as usize) {
-        return Ok(Settled { cnf, values });
+        let zeroed = with_literal(alloc, cnf, zero)?;
+        return Ok(Settled {
+            cnf: zeroed,
+            values,
+        });
     }
-    match search(alloc, &cnf, widths, None)? {
-        Searched::Model { values, learned } => {
-            let cnf = with_log(cnf, learned)?;
-            Ok(Settled { cnf, values })
+    let asked = ask_next(alloc, asking, cnf)?;
+    let more = with_literal(alloc, asked.cnf, zero)?;
+    let found = model_of(alloc, &more, widths, asked.guess)?;
+    match found {
+        Some(values) => Ok(Settled { cnf: more, values }),
+        None => {
+            let ones = with_literal(alloc, without_last(more), zero.opposite())?;
+            Ok(Settled { cnf: ones, values })
         }
-        Searched::Refuted(_) => {
-            let cnf = with_literal(alloc, without_last(cnf), zero.opposite())?;
-            Ok(Settled { cnf, values })
+    }
+}
+
+/// What the solver guesses of the next bit as 0, and the clauses with the steps that it needs.
+#[tactic(auto, using(crate::proofs::Settling::extended_none))]
+fn ask_next(alloc: Global, asking: &mut Asking, cnf: Cnf) -> Result<Asked, NoMemory>
+    ensures { IfOk result (λ r. IsExtended cnf r.cnf) }
+{
+    match asking.ask()? {
+        Guessed::Model(values) => Ok(Asked {
+            cnf,
+            guess: Guess::Model(values),
+        }),
+        Guessed::None => {
+            let clauses = cnf.clauses.len();
+            let steps = asking.take_steps(clauses)?;
+            let log = asking.refutation(steps.as_slice(), clauses)?;
+            let more = with_sound(alloc, cnf, steps)?;
+            Ok(Asked {
+                cnf: more,
+                guess: Guess::Refuted(log),
+            })
         }
+        Guessed::Spent => Ok(Asked {
+            cnf,
+            guess: Guess::Nothing,
+        }),
+    }
+}
+
+/// A model of the clauses, or `None` where there is none: as it is guessed, if that holds, and else as a
+/// search finds.
+fn model_of(
+    alloc: Global,
+    cnf: &Cnf,
+    widths: &[u32],
+    guess: Guess,
+) -> Result<Option<Assignment>, NoMemory>
+    ensures some { IfOk result (λ r. IfSome r (IsModel cnf.now.variables cnf.now.clauses)) }
+    ensures none { IfOk result (λ r. r ≡ None → (log : List SpecStep) × Refutes cnf.now.clauses log) }
+{
+    match guess {
+        Guess::Model(values) => {
+            if is_model(cnf, &values) {
+                return Ok(Some(values));
+            }
+        }
+        Guess::Refuted(log) => {
+            if refutes(alloc, cnf.clauses.as_slice(), log.as_slice())? {
+                return Ok(None);
+            }
+        }
+        Guess::Nothing => {}
+    }
+    model_by_search(alloc, cnf, widths)
+}
+
+/// A model of the clauses that a search finds, or `None` where there is none.
+fn model_by_search(alloc: Global, cnf: &Cnf, widths: &[u32]) -> Result<Option<Assignment>, NoMemory>
+    ensures some { IfOk result (λ r. IfSome r (IsModel cnf.now.variables cnf.now.clauses)) }
+    ensures none { IfOk result (λ r. r ≡ None → (log : List SpecStep) × Refutes cnf.now.clauses log) }
+{
+    match search(alloc, cnf, widths, None)? {
+        Searched::Model { values, .. } => Ok(Some(values)),
+        Searched::Refuted(_) => Ok(None),
         Searched::Spent(_) => unreachable!(),
     }
+}
+
+/// Whether values are a model of the clauses.
+fn is_model(cnf: &Cnf, values: &Assignment) -> bool
+    ensures { IsTrue result → IsModel cnf.now.variables cnf.now.clauses values.now }
+{
+    values.len() as u64 == cnf.variables && holds(cnf, values)
 }
 
 /// The clauses with one more, of one literal.
@@ -113,9 +220,21 @@ fn without_last(cnf: Cnf) -> Cnf
     Cnf::new(variables, Sequence::from_vec(clauses), front)
 }
 
+/// The clauses and those of the steps, if these are sound.
+fn with_sound(alloc: Global, cnf: Cnf, steps: Log) -> Result<Cnf, NoMemory>
+    ensures { IfOk result (IsExtended cnf) }
+{
+    if are_sound(alloc, cnf.clauses.as_slice(), steps.as_slice())? {
+        let more = with_log(cnf, steps)?;
+        Ok(more)
+    } else {
+        Ok(cnf)
+    }
+}
+
 /// The clauses and those that were learned from them.
 fn with_log(cnf: Cnf, learned: Log) -> Result<Cnf, NoMemory>
-    requires { AreLearned cnf.clauses learned }
+    requires { AreSound cnf.clauses learned }
     ensures variables { IfOk result (λ r. r.variables ≡ cnf.variables) }
     ensures clauses { IfOk result (λ r. r.clauses ≡ standing cnf.clauses learned) }
 {

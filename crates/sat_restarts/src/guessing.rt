@@ -8,7 +8,7 @@ ghost use Rattle.sat_restarts.specs.Searched.{IsSearched};
 
 use crate::searching::Searched;
 use cdcl::{Guessed, Solver};
-use clause_lits::{Assignment, Cnf, holds};
+use clause_lits::{Assignment, Cnf, Lit, holds};
 use clause_log::Log;
 use cnf_renumber::by_bit;
 use log_tidy::tidy;
@@ -61,16 +61,21 @@ pub fn guesser(
     Solver::of(alloc, cnf, &first)
 }
 
-/// What the solver guesses by at most this many conflicts more: at first without variables that are
-/// resolved away.
-fn guess(cnf: &Cnf, solver: &mut Solver, most: u64) -> Result<Guessed, NoMemory> {
+/// What the solver guesses under these assumptions by at most this many conflicts more: at first without
+/// variables that are resolved away. The first `front` ones stay.
+pub fn guess_under(
+    front: u64,
+    solver: &mut Solver,
+    assumed: &[Lit],
+    most: u64,
+) -> Result<Guessed, NoMemory> {
     if solver.is_reduced() {
-        return solver.solve(&[], most);
+        return solver.solve(assumed, most);
     }
-    match solver.solve(&[], FIRST_CONFLICTS)? {
+    match solver.solve(assumed, FIRST_CONFLICTS)? {
         Guessed::Spent => {
-            solver.eliminate(cnf.front)?;
-            solver.solve(&[], most)
+            solver.eliminate(front)?;
+            solver.solve(assumed, most)
         }
         found => Ok(found),
     }
@@ -86,7 +91,7 @@ fn guessed(
 ) -> Result<Option<Searched>, NoMemory>
     ensures { IfOk result (λ found. IfSome found (IsSearched cnf.now.variables cnf.now.clauses None)) }
 {
-    match guess(cnf, solver, most)? {
+    match guess_under(cnf.front, solver, &[], most)? {
         Guessed::Model(values) => Ok(model_of(alloc, cnf, values)),
         Guessed::None => refutation_of(alloc, cnf, solver.take_needed(cnf.clauses.len() as u64)?),
         Guessed::Spent => Ok(None),

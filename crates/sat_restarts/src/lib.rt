@@ -12,6 +12,7 @@
 #![tactic(auto)]
 
 mod activity;
+mod asking;
 mod bits;
 mod guessing;
 mod leastness;
