@@ -5,6 +5,7 @@ pub mod BitRules
 pub mod SumRules
 pub mod ChoiceRules
 pub mod ComplementRules
+pub mod OrderRules
 pub mod OtherRules
 pub mod PolynomialRules
 pub mod AmountRules

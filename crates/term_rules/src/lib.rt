@@ -6,7 +6,8 @@
 //! operations, one over the other (`factors`, `low_bits`, `magnitudes`, `shrinking`,
 //! `signed_divisions`), it finds their operands first and makes both by rules. The rules are those
 //! that solvers of bit vectors rewrite by (Bitwuzla, CAV 2023; Z3's rewriter; LLVM's InstCombine).
-//! The divisions of `wrapping` have their value only where a condition is false, that of poison.
+//! The divisions of `wrapping` and the comparisons of `comparing` have their value only where a
+//! condition is false, that of poison; a shift of a constant stands for some quotients.
 //! It uses `bv_terms`, and `known_values` for operations on known numbers and for weights; the
 //! encoding of runs uses it.
 #![tactic(auto)]
@@ -17,6 +18,7 @@ mod bounds;
 mod builders;
 mod building;
 mod choices;
+mod comparing;
 mod comparisons;
 mod complements;
 mod conditions;
@@ -44,5 +46,6 @@ pub use builders::{
     add, and, ashr, concat, constant, eq, extract, ite, lshr, mul, not, or, sext, shl, slt, sub,
     udiv, ult, urem, variable, xor, zext,
 };
+pub use comparing::ordered_where;
 pub use possible::may_be;
-pub use wrapping::{udiv_where, urem_where};
+pub use wrapping::{Pair, udiv_where, urem_where};

@@ -17,9 +17,9 @@ use support::NoMemory;
 /// How many nodes of a disjunction are looked at.
 const DISJUNCTS: u32 = 24;
 
-/// An operation on unsigned numbers that is said not to wrap.
+/// An operation on unsigned numbers that is said to lose nothing.
 #[derive(Clone, Copy)]
-enum Plain {
+pub enum Plain {
     /// The product of two terms.
     Product {
         x: TermId,
@@ -37,6 +37,11 @@ enum Plain {
         x: TermId,
         y: TermId,
     },
+    /// The quotient of the first by the second.
+    Quotient {
+        x: TermId,
+        y: TermId,
+    },
 }
 
 /// What was found, and how many more nodes may be looked at.
@@ -48,9 +53,9 @@ struct Search {
 
 /// Two terms.
 #[derive(Clone, Copy)]
-struct Pair {
-    first: TermId,
-    second: TermId,
+pub struct Pair {
+    pub first: TermId,
+    pub second: TermId,
 }
 
 /// The two that are equal where the condition is false, if it is the negation of an equality.
@@ -151,6 +156,21 @@ fn is_shifted_back(terms: &Terms, back: TermId, a: TermId, amount: TermId) -> bo
     }
 }
 
+/// Whether the term plainly is the remainder of the first by the second.
+fn is_rest(terms: &Terms, rest: TermId, x: TermId, y: TermId) -> bool
+    requires rest { rest.index < length terms.now }
+    requires x { x.index < length terms.now }
+    requires y { y.index < length terms.now }
+    ensures { IsTrue result → (v : ℕ → ℕ → ℕ) → term_at v terms.now rest ≡ remainder (term_at v terms.now x) (term_at v terms.now y) }
+{
+    match term(terms, rest) {
+        Term::Binary(BinaryOp::Urem, dividend, divisor, _) => {
+            dividend.index == x.index && divisor.index == y.index
+        }
+        _ => false,
+    }
+}
+
 /// Whether the condition says that a shift lost bits.
 fn says_shift(terms: &Terms, p: TermId, a: TermId, x: TermId, amount: TermId) -> bool
     requires p { p.index < length terms.now }
@@ -184,7 +204,23 @@ fn says_sum(terms: &Terms, p: TermId, a: TermId, x: TermId, y: TermId) -> bool
     }
 }
 
-/// Whether the condition plainly is that the operation wraps.
+/// Whether the condition says that the division leaves a remainder.
+fn says_quotient(terms: &Terms, p: TermId, x: TermId, y: TermId) -> bool
+    requires p { p.index < length terms.now }
+    requires x { x.index < length terms.now }
+    requires y { y.index < length terms.now }
+    ensures { IsTrue result → (v : ℕ → ℕ → ℕ) → bit_at v terms.now p ≡ false → remainder (term_at v terms.now x) (term_at v terms.now y) ≡ 0 }
+{
+    let Some(pair) = unequal(terms, p) else {
+        return false;
+    };
+    match term(terms, pair.second) {
+        Term::Constant { value, .. } if value == 0 => is_rest(terms, pair.first, x, y),
+        _ => false,
+    }
+}
+
+/// Whether the condition plainly is that the operation loses something.
 fn says(terms: &Terms, p: TermId, plain: Plain) -> bool
     requires p { p.index < length terms.now }
     requires plain { IsPlain terms.now plain }
@@ -194,10 +230,11 @@ fn says(terms: &Terms, p: TermId, plain: Plain) -> bool
         Plain::Product { x, y } => says_product(terms, p, x, y),
         Plain::Shift { a, x, amount } => says_shift(terms, p, a, x, amount),
         Plain::Sum { a, x, y } => says_sum(terms, p, a, x, y),
+        Plain::Quotient { x, y } => says_quotient(terms, p, x, y),
     }
 }
 
-/// Whether one of the first `fuel` nodes of the disjunction `p` says that the operation wraps.
+/// Whether one of the first `fuel` nodes of the disjunction `p` says that the operation loses something.
 fn says_one_of(terms: &Terms, p: TermId, plain: Plain, fuel: u32) -> Search
     requires p { p.index < length terms.now }
     requires plain { IsPlain terms.now plain }
@@ -226,8 +263,8 @@ fn says_one_of(terms: &Terms, p: TermId, plain: Plain, fuel: u32) -> Search
     }
 }
 
-/// Whether the operation does not wrap where the condition is false.
-fn is_plain(terms: &Terms, p: TermId, plain: Plain) -> bool
+/// Whether the operation loses nothing where the condition is false.
+pub fn is_plain(terms: &Terms, p: TermId, plain: Plain) -> bool
     requires p { p.index < length terms.now }
     requires plain { IsPlain terms.now plain }
     ensures { IsTrue result → IsKept terms.now p plain }
