@@ -19,7 +19,7 @@ use crate::magnitudes::{is_of_opposite, known_choice, magnitude};
 use crate::multiples::divisor;
 use crate::shrinking::{
     are_equal, is_greater, is_less, rest_of_ones, shrunk_by_number, shrunk_further, shrunk_pair,
-    widened_inverse, widened_quotient, widened_remainder,
+    widened_choice, widened_choice_turned, widened_inverse, widened_quotient, widened_remainder,
 };
 use crate::signed_divisions::{signed_multiple, signed_remainder};
 use crate::{arithmetic, bitwise, choices, comparisons, divisions, shifts, widths};
@@ -310,6 +310,15 @@ pub fn ite(terms: &mut Terms, c: TermId, a: TermId, b: TermId) -> Result<TermId,
     }
     if is_of_opposite(terms, c, a, b) {
         let id = magnitude(terms, a, b)?;
+        return Ok(id);
+    }
+    let width = terms.width(a);
+    if let Some(pair) = shrunk_pair(terms, a, b) {
+        let id = widened_choice(terms, c, pair, width)?;
+        return Ok(id);
+    }
+    if let Some(pair) = shrunk_pair(terms, b, a) {
+        let id = widened_choice_turned(terms, c, pair, width)?;
         return Ok(id);
     }
     let form = choices::choice(terms, c, a, b);

@@ -1,8 +1,8 @@
 //! Operations on two numbers of which one was widened, at the width before.
 
-ghost use Rattle.std.specs.Prelude.{◌≡◌, ◌<◌, ◌≤◌, ◌+◌, ◌-◌, ◌^◌, ℕ, IfOk, IfSome, length, nat_lt, nat_eq};
+ghost use Rattle.std.specs.Prelude.{◌≡◌, ◌<◌, ◌≤◌, ◌+◌, ◌-◌, ◌^◌, ℕ, IfOk, IfSome, cond, length, nat_lt, nat_eq};
 ghost use Rattle.bv_terms.specs.Tree.{digit, quotient, remainder, value_of, width_of};
-ghost use Rattle.bv_terms.specs.Trees.{Keeps, Makes, term_at, tree_in};
+ghost use Rattle.bv_terms.specs.Trees.{Keeps, Makes, bit_at, term_at, tree_in};
 ghost use Rattle.known_values.specs.Weight.{weight_of};
 ghost use Rattle.term_rules.specs.Forms.{IsPair, IsShrunk, IsTaken, IsWidened, form_tree};
 
@@ -10,7 +10,7 @@ use crate::building::build;
 use crate::form::Form;
 use crate::reading::{number, term};
 use crate::widths::widened;
-use crate::{bitwise, comparisons, divisions};
+use crate::{bitwise, choices, comparisons, divisions};
 use bv_terms::{Term, TermId, Terms};
 use known_values::numbers::ones;
 use support::NoMemory;
@@ -124,6 +124,54 @@ pub fn widened_inverse(terms: &mut Terms, a: TermId, width: u32) -> Result<TermI
 {
     let inverse = bitwise::inverse(terms, a);
     let narrow = build(terms, inverse)?;
+    let form = widened(terms, narrow, width);
+    let id = build(terms, form)?;
+    Ok(id)
+}
+
+/// The choice between the two, widened.
+pub fn widened_choice(
+    terms: &mut Terms,
+    c: TermId,
+    pair: Shrunk,
+    width: u32,
+) -> Result<TermId, NoMemory>
+    requires c { c.index < length terms.old }
+    requires bit { width_of (tree_in terms.old c) ≡ 1 }
+    requires pair { IsPair terms.old pair }
+    requires least { width_of (tree_in terms.old pair.first) ≤ width }
+    requires most { width ≤ 128 }
+    ensures made { IfOk result (λ id. Makes terms.new id width (λ v. cond (bit_at v terms.old c) (term_at v terms.old pair.first) (value_of v (form_tree terms.old pair.second)))) }
+    ensures least { IfOk result (λ id. weight_of (tree_in terms.new id) ≤ 2 + weight_of (tree_in terms.old c) + weight_of (tree_in terms.old pair.first) + weight_of (form_tree terms.old pair.second)) }
+    ensures kept { Keeps terms.old terms.new }
+{
+    let second = build(terms, pair.second)?;
+    let form = choices::choice(terms, c, pair.first, second);
+    let narrow = build(terms, form)?;
+    let form = widened(terms, narrow, width);
+    let id = build(terms, form)?;
+    Ok(id)
+}
+
+/// The choice between the second and the first, widened.
+pub fn widened_choice_turned(
+    terms: &mut Terms,
+    c: TermId,
+    pair: Shrunk,
+    width: u32,
+) -> Result<TermId, NoMemory>
+    requires c { c.index < length terms.old }
+    requires bit { width_of (tree_in terms.old c) ≡ 1 }
+    requires pair { IsPair terms.old pair }
+    requires least { width_of (tree_in terms.old pair.first) ≤ width }
+    requires most { width ≤ 128 }
+    ensures made { IfOk result (λ id. Makes terms.new id width (λ v. cond (bit_at v terms.old c) (value_of v (form_tree terms.old pair.second)) (term_at v terms.old pair.first))) }
+    ensures least { IfOk result (λ id. weight_of (tree_in terms.new id) ≤ 2 + weight_of (tree_in terms.old c) + weight_of (tree_in terms.old pair.first) + weight_of (form_tree terms.old pair.second)) }
+    ensures kept { Keeps terms.old terms.new }
+{
+    let second = build(terms, pair.second)?;
+    let form = choices::choice(terms, c, second, pair.first);
+    let narrow = build(terms, form)?;
     let form = widened(terms, narrow, width);
     let id = build(terms, form)?;
     Ok(id)
