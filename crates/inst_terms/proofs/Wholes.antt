@@ -1,5 +1,5 @@
 -- The results of the public calls denote what the table gives.
-use Rattle.inst_terms.proofs.Common.{ℕ, zero, suc, ◌≡◌, ◌<◌, ◌/◌, ◌%◌, ◌^◌, Bool, true, false, cond, ◌||◌, nat_eq, List, refl, ap, subst, ◌∙◌, arith, if◌then◌else◌, Op, Value, Num, TermId, Term, truth, Keeps, Makes, Tests, term_at, bit_at, is_undefined, value_result, are_unlike, holds_of, compared, cast_number, cast_value, selected, IsSymNumber, IsSymValue, Reading, number_at, value_at, value_from, value_of, option_from, bit-later, term-later, value-later, keeps_self, keeps_trans, NarrowValue, IsNarrow, narrow_at, IsRow, row_of}
+use Rattle.inst_terms.proofs.Common.{ℕ, zero, suc, ◌≡◌, ◌<◌, ◌/◌, ◌%◌, ◌^◌, Bool, true, false, cond, ◌||◌, nat_eq, nat_le, nat_lt, not, List, inl, inr, refl, ap, sym, subst, ◌∙◌, arith, cases_lt, lt-ltb, le-ltb, lt-leb, le-leb, eq-eqb, ne_eqb, if◌then◌else◌, Op, Value, Num, TermId, Term, truth, Keeps, IsTerm, Makes, Tests, term_at, bit_at, is_undefined, value_result, are_unlike, holds_of, compared, cast_number, cast_value, selected, IsSymNumber, IsSymValue, Reading, number_at, value_at, value_from, value_of, option_from, bit-later, term-later, value-later, keeps_self, keeps_trans, NarrowValue, IsNarrow, narrow_at, IsRow, row_of}
 use Rattle.ir_tree.specs.declared.tree.Cast.{Cast}
 use Rattle.ir_tree.specs.declared.tree.Predicate.{Predicate}
 use Rattle.byte_block.specs.declared.value.BlockName.{BlockName}
@@ -31,9 +31,6 @@ operands-later old g1 g2 new n left right a b hl hr k1 ea ma k2 eb mb k3 =
       second_poison = λ v. ap (bit_at v new) eb ∙ bit-later old new k03 v right.poison hr.poison.within;
       second_number = λ v. term-later g2 new k3 v b.number mb.within ∙ (mb.says v ∙ ap (λ k. k % 2 ^ n) (term-later old g1 k1 v right.number hr.number.within));
     }
-
-three : {p p' q q' r r' : Bool} → p ≡ p' → q ≡ q' → r ≡ r' → ((p || q) || r) ≡ ((p' || q') || r')
-three e f g = cc
 
 two : {p p' q q' : Bool} → p ≡ p' → q ≡ q' → (p || q) ≡ (p' || q')
 two e f = cc
@@ -75,37 +72,64 @@ binary-stands old g1 g2 g3 g4 g5 g6 g7 op n left right a b row undefined operand
 
 -- ---- comparisons
 
-compare_is : (predicate : Predicate) (same_sign : Bool) (n : ℕ) (p q : Bool) (x y : ℕ)
-    → value_from ((p || q) || are_unlike same_sign n (x % 2 ^ n) (y % 2 ^ n)) (table.truth (holds_of predicate n (x % 2 ^ n) (y % 2 ^ n))) ≡ compared predicate same_sign n (value_from p x) (value_from q y)
-compare_is predicate same_sign n true q x y = refl
-compare_is predicate same_sign n false true x y = refl
-compare_is predicate same_sign n false false x y = from_is-if (are_unlike same_sign n (x % 2 ^ n) (y % 2 ^ n)) (table.truth (holds_of predicate n (x % 2 ^ n) (y % 2 ^ n)))
+-- equality and order come from the two strict orders
+equal-is : (m n : ℕ) → nat_eq m n ≡ not (nat_lt m n || nat_lt n m)
+equal-is m n = elim (cases_lt m n) as (λ _. nat_eq m n ≡ not (nat_lt m n || nat_lt n m)) [
+  | inl less ↦ rw (lt-ltb m n less) (ne_eqb m n (λ e. omega (arith, less, e)))
+  | inr more ↦ elim (cases_lt n m) as (λ _. nat_eq m n ≡ not (nat_lt m n || nat_lt n m)) [
+      | inl less ↦ rw (le-ltb m n more) (rw (lt-ltb n m less) (ne_eqb m n (λ e. omega (arith, less, e))))
+      | inr least ↦ rw (le-ltb m n more) (rw (le-ltb n m least) (eq-eqb m n (omega (arith, more, least))))
+    ]
+]
 
-pub compare-stands : (old g1 g2 g3 g4 g5 g6 : List Term) (predicate : Predicate) (same_sign : Bool) (n : ℕ) (left right : SymNumber) (a b : NarrowValue) (unlike test poison : TermId) (value : SymNumber) → IsSymNumber old left → IsSymNumber old right
+at_most-is : (m n : ℕ) → nat_le m n ≡ not (nat_lt n m)
+at_most-is m n = elim (cases_lt n m) as (λ _. nat_le m n ≡ not (nat_lt n m)) [
+  | inl less ↦ rw (lt-ltb n m less) (lt-leb m n less)
+  | inr more ↦ rw (le-ltb n m more) (le-leb m n more)
+]
+
+pub equal-by-order : (x y a b : ℕ) → nat_lt x y ≡ nat_lt a b → nat_lt y x ≡ nat_lt b a → nat_eq x y ≡ nat_eq a b
+equal-by-order x y a b e f = equal-is x y ∙ (two-turned e f ∙ sym (equal-is a b))
+  where
+    two-turned : {p p' q q' : Bool} → p ≡ p' → q ≡ q' → not (p || q) ≡ not (p' || q')
+    two-turned e f = cc
+
+pub at_most-by-order : (x y a b : ℕ) → nat_lt y x ≡ nat_lt b a → nat_le x y ≡ nat_le a b
+at_most-by-order x y a b e = at_most-is x y ∙ (ap not e ∙ sym (at_most-is a b))
+
+compare_is : (predicate : Predicate) (same_sign : Bool) (n : ℕ) (p q test : Bool) (x y : ℕ) → ((p || q) ≡ false → test ≡ holds_of predicate n (x % 2 ^ n) (y % 2 ^ n))
+    → value_from ((p || q) || are_unlike same_sign n (x % 2 ^ n) (y % 2 ^ n)) (table.truth test) ≡ compared predicate same_sign n (value_from p x) (value_from q y)
+compare_is predicate same_sign n true q test x y h = refl
+compare_is predicate same_sign n false true test x y h = refl
+compare_is predicate same_sign n false false test x y h =
+    ap (λ t. value_from (are_unlike same_sign n (x % 2 ^ n) (y % 2 ^ n)) (table.truth t)) (h refl) ∙ from_is-if (are_unlike same_sign n (x % 2 ^ n) (y % 2 ^ n)) (table.truth (holds_of predicate n (x % 2 ^ n) (y % 2 ^ n)))
+
+pub compare-stands : (old g1 g2 g3 g4 g5 g6 g7 : List Term) (predicate : Predicate) (same_sign : Bool) (n : ℕ) (left right : SymNumber) (a b : NarrowValue) (unlike operands test poison : TermId) (value : SymNumber) → IsSymNumber old left → IsSymNumber old right
     → Keeps old g1 → a.poison ≡ left.poison → Makes g1 a.number n (λ v. term_at v old left.number % 2 ^ n)
     → Keeps g1 g2 → b.poison ≡ right.poison → Makes g2 b.number n (λ v. term_at v g1 right.number % 2 ^ n)
     → Keeps g2 g3 → Tests g3 unlike (λ v. are_unlike same_sign n (term_at v g2 a.number) (term_at v g2 b.number))
-    → Keeps g3 g4 → Tests g4 test (λ v. holds_of predicate n (term_at v g3 a.number) (term_at v g3 b.number))
-    → Keeps g4 g5 → Tests g5 poison (λ v. (bit_at v g4 a.poison || bit_at v g4 b.poison) || bit_at v g4 unlike)
-    → ((v : ℕ → ℕ → ℕ) → number_at v g6 value ≡ value_from (bit_at v g5 poison) (table.truth (bit_at v g5 test)))
-    → (v : ℕ → ℕ → ℕ) → number_at v g6 value ≡ compared predicate same_sign n (number_at v old left) (number_at v old right)
+    → Keeps g3 g4 → Tests g4 operands (λ v. bit_at v g3 a.poison || bit_at v g3 b.poison)
+    → Keeps g4 g5 → IsTerm g5 1 test → ((v : ℕ → ℕ → ℕ) → bit_at v g4 operands ≡ false → bit_at v g5 test ≡ holds_of predicate n (term_at v g4 a.number) (term_at v g4 b.number))
+    → Keeps g5 g6 → Tests g6 poison (λ v. bit_at v g5 operands || bit_at v g5 unlike)
+    → ((v : ℕ → ℕ → ℕ) → number_at v g7 value ≡ value_from (bit_at v g6 poison) (table.truth (bit_at v g6 test)))
+    → (v : ℕ → ℕ → ℕ) → number_at v g7 value ≡ compared predicate same_sign n (number_at v old left) (number_at v old right)
 unfolding number_at
-compare-stands old g1 g2 g3 g4 g5 g6 predicate same_sign n left right a b unlike test poison value hl hr k1 ea ma k2 eb mb k3 tu k4 tt k5 tp sv v =
-    let k22 = keeps_self g2 in
-    let o2 = operands-later old g1 g2 g2 n left right a b hl hr k1 ea ma k2 eb mb k22 in
+compare-stands old g1 g2 g3 g4 g5 g6 g7 predicate same_sign n left right a b unlike operands test poison value hl hr k1 ea ma k2 eb mb k3 tu k4 to k5 it tt k6 tp sv v =
+    let o2 = operands-later old g1 g2 g2 n left right a b hl hr k1 ea ma k2 eb mb (keeps_self g2) in
     let o3 = operands-later old g1 g2 g3 n left right a b hl hr k1 ea ma k2 eb mb k3 in
     let o4 = operands-later old g1 g2 g4 n left right a b hl hr k1 ea ma k2 eb mb (keeps_trans g2 g3 g4 k3 k4) in
     let p = bit_at v old left.poison in
     let q = bit_at v old right.poison in
     let x = term_at v old left.number in
     let y = term_at v old right.number in
-    let own : bit_at v g4 unlike ≡ are_unlike same_sign n (x % 2 ^ n) (y % 2 ^ n) =
-    bit-later g3 g4 k4 v unlike tu.within ∙ (tu.says v ∙ (ap (λ k. are_unlike same_sign n k (term_at v g2 b.number)) (o2.first_number v) ∙ ap (are_unlike same_sign n (x % 2 ^ n)) (o2.second_number v))) in
-    let holds : bit_at v g5 test ≡ holds_of predicate n (x % 2 ^ n) (y % 2 ^ n) =
-    bit-later g4 g5 k5 v test tt.within ∙ (tt.says v ∙ (ap (λ k. holds_of predicate n k (term_at v g3 b.number)) (o3.first_number v) ∙ ap (holds_of predicate n (x % 2 ^ n)) (o3.second_number v))) in
-    let any : bit_at v g5 poison ≡ ((p || q) || are_unlike same_sign n (x % 2 ^ n) (y % 2 ^ n)) = tp.says v ∙ three (o4.first_poison v) (o4.second_poison v) own in
-    sv v ∙ (ap (λ t. value_from t (table.truth (bit_at v g5 test))) any ∙ (ap (λ t. value_from ((p || q) || are_unlike same_sign n (x % 2 ^ n) (y % 2 ^ n)) (table.truth t)) holds
-    ∙ compare_is predicate same_sign n p q x y))
+    let either : bit_at v g4 operands ≡ (p || q) = to.says v ∙ two (o3.first_poison v) (o3.second_poison v) in
+    let holds : (p || q) ≡ false → bit_at v g6 test ≡ holds_of predicate n (x % 2 ^ n) (y % 2 ^ n) = λ e.
+        bit-later g5 g6 k6 v test it.within ∙ (tt v (either ∙ e)
+        ∙ (ap (λ k. holds_of predicate n k (term_at v g4 b.number)) (o4.first_number v) ∙ ap (holds_of predicate n (x % 2 ^ n)) (o4.second_number v))) in
+    let own : bit_at v g5 unlike ≡ are_unlike same_sign n (x % 2 ^ n) (y % 2 ^ n) =
+        bit-later g3 g5 (keeps_trans g3 g4 g5 k4 k5) v unlike tu.within ∙ (tu.says v ∙ (ap (λ k. are_unlike same_sign n k (term_at v g2 b.number)) (o2.first_number v) ∙ ap (are_unlike same_sign n (x % 2 ^ n)) (o2.second_number v))) in
+    let any : bit_at v g6 poison ≡ ((p || q) || are_unlike same_sign n (x % 2 ^ n) (y % 2 ^ n)) = tp.says v ∙ two (bit-later g4 g5 k5 v operands to.within ∙ either) own in
+    sv v ∙ (ap (λ t. value_from t (table.truth (bit_at v g6 test))) any ∙ compare_is predicate same_sign n p q (bit_at v g6 test) x y holds)
 
 -- ---- casts
 

@@ -1,18 +1,18 @@
 //! Comparisons (LLVM Language Reference, "icmp Instruction").
 
-ghost use Rattle.std.specs.Prelude.{◌≡◌, ℕ, IfOk, int_le, int_lt, nat_le};
+ghost use Rattle.std.specs.Prelude.{◌≡◌, ℕ, IfOk, IsTrue, false, int_le, int_lt, nat_le, nat_lt};
 ghost use Rattle.bv_terms.specs.Trees.{IsTerm, Keeps, Tests, bit_at, term_at};
 ghost use Rattle.tv_num.specs.Width.{signed_of};
 ghost use Rattle.points.specs.Table.{are_unlike, compared, holds_of, truth};
 ghost use Rattle.mem_terms.specs.Values.{IsSymNumber, number_at, value_from};
 
-use crate::narrow::{is_another, is_any_poison, narrowed};
+use crate::narrow::{is_another, narrowed};
 use crate::signs::signs_differ;
 use bv_terms::{TermId, Terms};
 use ir_tree::Predicate;
-use mem_terms::{SymNumber, equals, less, less_signed, negation, truth};
+use mem_terms::{SymNumber, either, equals, less, less_signed, negation, truth};
 use support::NoMemory;
-use term_rules::zext;
+use term_rules::{ordered_where, zext};
 use tv_num::Width;
 
 /// Whether the first is less or equal, unsigned.
@@ -83,6 +83,50 @@ fn holds(
     }
 }
 
+/// Whether the predicate only asks for equality or for the order of unsigned numbers.
+fn is_unsigned(predicate: Predicate) -> bool
+    ensures { IsTrue result → (n x y a b : ℕ) → nat_lt x y ≡ nat_lt a b → nat_lt y x ≡ nat_lt b a → holds_of predicate n x y ≡ holds_of predicate n a b }
+{
+    match predicate {
+        Predicate::Equal => true,
+        Predicate::NotEqual => true,
+        Predicate::UnsignedGreater => true,
+        Predicate::UnsignedGreaterOrEqual => true,
+        Predicate::UnsignedLess => true,
+        Predicate::UnsignedLessOrEqual => true,
+        Predicate::SignedGreater => false,
+        Predicate::SignedGreaterOrEqual => false,
+        Predicate::SignedLess => false,
+        Predicate::SignedLessOrEqual => false,
+    }
+}
+
+/// Whether the predicate holds of two numbers of the width, where the condition is false: an operand
+/// is poison where it is true.
+fn holds_where(
+    terms: &mut Terms,
+    poison: TermId,
+    predicate: Predicate,
+    a: TermId,
+    b: TermId,
+    width: Width,
+) -> Result<TermId, NoMemory>
+    requires poison { IsTerm terms.old 1 poison }
+    requires a { IsTerm terms.old width.bits a }
+    requires b { IsTerm terms.old width.bits b }
+    ensures made { IfOk result (IsTerm terms.new 1) }
+    ensures says { IfOk result (λ id. (v : ℕ → ℕ → ℕ) → bit_at v terms.old poison ≡ false
+        → bit_at v terms.new id ≡ holds_of predicate width.bits (term_at v terms.old a) (term_at v terms.old b)) }
+    ensures kept { Keeps terms.old terms.new }
+{
+    if is_unsigned(predicate) {
+        let pair = ordered_where(terms, poison, a, b);
+        holds(terms, predicate, pair.first, pair.second, width)
+    } else {
+        holds(terms, predicate, a, b, width)
+    }
+}
+
 /// Whether `samesign` forbids the comparison.
 fn are_unlike(
     terms: &mut Terms,
@@ -135,8 +179,9 @@ pub fn compare(
     let a = narrowed(terms, left, width)?;
     let b = narrowed(terms, right, width)?;
     let unlike = are_unlike(terms, same_sign, a.number, b.number, width)?;
-    let test = holds(terms, predicate, a.number, b.number, width)?;
-    let poison = is_any_poison(terms, a.poison, b.poison, unlike)?;
+    let operands = either(terms, a.poison, b.poison)?;
+    let test = holds_where(terms, operands, predicate, a.number, b.number, width)?;
+    let poison = either(terms, operands, unlike)?;
     let value = truth_value(terms, poison, test)?;
     Ok(value)
 }

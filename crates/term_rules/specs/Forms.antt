@@ -13,6 +13,7 @@ use Rattle.term_rules.specs.declared.form.Form.{Form}
 use Rattle.term_rules.specs.declared.form.Form.TheVariants.{Built, Divided, Known, Nonzero, Raised, Shifted}
 use Rattle.term_rules.specs.declared.low_bits.Kind.{Kind}
 use Rattle.term_rules.specs.declared.low_bits.Kind.TheVariants.{Sum, Difference, Reverse, Product, Conjunction, Disjunction, Exclusive}
+use Rattle.term_rules.specs.declared.low_bits.NarrowChoice.{NarrowChoice}
 use Rattle.term_rules.specs.declared.low_bits.Narrowing.{Narrowing}
 use Rattle.term_rules.specs.declared.low_bits.Operation.{Operation}
 use Rattle.term_rules.specs.declared.nested_divisions.Division.{Division}
@@ -153,6 +154,19 @@ pub record IsNarrowing (terms : List Term) (a : TermId) (width : ℕ) (n : Narro
   pub rest : IsTerm terms (width_of (tree_in terms a)) n.rest
   pub says : (v : ℕ → ℕ → ℕ) → term_at v terms a % 2 ^ width ≡ operated n.kind width (value_of v (form_tree terms n.form)) (term_at v terms n.rest % 2 ^ width)
   pub least : 1 + weight_of (form_tree terms n.form) + weight_of (tree_in terms n.rest) ≤ weight_of (tree_in terms a)
+
+-- a choice between two numbers, the first of which is the first arm or the second one
+abbrev pub chosen_arm : Bool → Bool → ℕ → ℕ → ℕ
+chosen_arm is_first c x y = cond is_first (cond c x y) (cond c y x)
+
+-- the term's low bits are a choice between the form and the low bits of the other arm
+pub record IsNarrowChoice (terms : List Term) (a : TermId) (width : ℕ) (n : NarrowChoice) : Type 0 where
+  pub condition : IsTerm terms 1 n.c
+  pub fit : IsForm terms n.form
+  pub wide : width_of (form_tree terms n.form) ≡ width
+  pub rest : IsTerm terms (width_of (tree_in terms a)) n.rest
+  pub says : (v : ℕ → ℕ → ℕ) → term_at v terms a % 2 ^ width ≡ chosen_arm n.is_first (bit_at v terms n.c) (value_of v (form_tree terms n.form)) (term_at v terms n.rest % 2 ^ width)
+  pub least : 1 + weight_of (tree_in terms n.c) + weight_of (form_tree terms n.form) + weight_of (tree_in terms n.rest) ≤ weight_of (tree_in terms a)
 
 -- ---- numbers at the width that they had before they were widened
 

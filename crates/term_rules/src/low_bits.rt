@@ -3,15 +3,17 @@
 //! The low bits of a sum, a difference, a product or a bitwise operation come from only the low
 //! bits of its operands. Where one of these was widened from no more bits than these, or is a
 //! constant, its low bits have no more nodes than it has, and so the operation is moved to the
-//! smaller width. This goes two operations deep.
+//! smaller width. This goes two operations deep. The low bits of a choice are a choice between low
+//! bits.
 
 ghost use Rattle.std.specs.Prelude.{◌≡◌, ◌<◌, ◌≤◌, ◌+◌, ◌%◌, ◌^◌, ℕ, IfOk, IfSome, length};
 ghost use Rattle.bv_terms.specs.Tree.{width_of};
-ghost use Rattle.bv_terms.specs.Trees.{Keeps, Makes, term_at, tree_in};
+ghost use Rattle.bv_terms.specs.Trees.{Keeps, Makes, bit_at, term_at, tree_in};
 ghost use Rattle.known_values.specs.Weight.{weight_of};
-ghost use Rattle.term_rules.specs.Forms.{IsLow, IsNarrowing, IsOperation, Simplifies, operated, operation_tree};
+ghost use Rattle.term_rules.specs.Forms.{IsLow, IsNarrowChoice, IsNarrowing, IsOperation, Simplifies, chosen_arm, operated, operation_tree};
 
 use crate::building::build;
+use crate::choices::choice;
 use crate::divisions::low_quotient;
 use crate::form::Form;
 use crate::reading::term;
@@ -49,6 +51,19 @@ pub struct Narrowing {
     pub form: Form,
     pub rest: TermId,
 }
+
+/// The low bits of one arm of a choice as a form, and the other arm.
+#[derive(Clone, Copy)]
+pub struct NarrowChoice {
+    pub c: TermId,
+    pub form: Form,
+    pub rest: TermId,
+    /// Whether the form is for the first arm.
+    pub is_first: bool,
+}
+
+/// How many choices, one an arm of the other, are moved to a smaller width.
+const CHOICES: u32 = 8;
 
 /// The operation that the term is, if it is such a one.
 fn as_operation(terms: &Terms, a: TermId) -> Option<Operation>
@@ -156,6 +171,42 @@ fn first_narrow(terms: &Terms, a: TermId, width: u32) -> Option<Narrowing>
     })
 }
 
+/// What the low bits of the term come from, if it is a choice of which one arm is narrow.
+fn narrow_choice(terms: &Terms, a: TermId, width: u32) -> Option<NarrowChoice>
+    requires a { a.index < length terms.now }
+    requires least { 1 ≤ width }
+    requires most { width ≤ width_of (tree_in terms.now a) }
+    ensures { IfSome result (IsNarrowChoice terms.now a width) }
+{
+    terms.values_fit();
+    let _whole = terms.width(a);
+    match term(terms, a) {
+        Term::Ite {
+            c,
+            a: first,
+            b: second,
+            ..
+        } => {
+            if let Some(form) = narrow(terms, first, width) {
+                return Some(NarrowChoice {
+                    c,
+                    form,
+                    rest: second,
+                    is_first: true,
+                });
+            }
+            let form = narrow(terms, second, width)?;
+            Some(NarrowChoice {
+                c,
+                form,
+                rest: first,
+                is_first: false,
+            })
+        }
+        _ => None,
+    }
+}
+
 /// The operation on two terms of one width.
 fn form_of(terms: &Terms, kind: Kind, a: TermId, b: TermId) -> Form
     requires a { a.index < length terms.now }
@@ -192,6 +243,56 @@ fn plain_low(terms: &mut Terms, a: TermId, width: u32) -> Result<TermId, NoMemor
     Ok(id)
 }
 
+/// The choice between two terms, the first of which is the first arm or the second one.
+fn chosen(
+    terms: &mut Terms,
+    c: TermId,
+    is_first: bool,
+    a: TermId,
+    b: TermId,
+) -> Result<TermId, NoMemory>
+    requires c { c.index < length terms.old }
+    requires bit { width_of (tree_in terms.old c) ≡ 1 }
+    requires a { a.index < length terms.old }
+    requires b { b.index < length terms.old }
+    requires alike { width_of (tree_in terms.old a) ≡ width_of (tree_in terms.old b) }
+    ensures made { IfOk result (λ id. Makes terms.new id (width_of (tree_in terms.old a)) (λ v. chosen_arm is_first (bit_at v terms.old c) (term_at v terms.old a) (term_at v terms.old b))) }
+    ensures least { IfOk result (λ id. weight_of (tree_in terms.new id) ≤ 1 + weight_of (tree_in terms.old c) + weight_of (tree_in terms.old a) + weight_of (tree_in terms.old b)) }
+    ensures kept { Keeps terms.old terms.new }
+{
+    if is_first {
+        let form = choice(terms, c, a, b);
+        let id = build(terms, form)?;
+        Ok(id)
+    } else {
+        let form = choice(terms, c, b, a);
+        let id = build(terms, form)?;
+        Ok(id)
+    }
+}
+
+/// The low bits, where at most `fuel` choices between plain terms are moved to the smaller width.
+fn choice_low(terms: &mut Terms, a: TermId, width: u32, fuel: u32) -> Result<TermId, NoMemory>
+    requires a { a.index < length terms.old }
+    requires least { 1 ≤ width }
+    requires most { width ≤ width_of (tree_in terms.old a) }
+    ensures made { IfOk result (λ id. Makes terms.new id width (λ v. term_at v terms.old a % 2 ^ width)) }
+    ensures least { IfOk result (λ id. weight_of (tree_in terms.new id) ≤ 1 + weight_of (tree_in terms.old a)) }
+    ensures kept { Keeps terms.old terms.new }
+{
+    if fuel == 0 {
+        return plain_low(terms, a, width);
+    }
+    match narrow_choice(terms, a, width) {
+        Some(found) => {
+            let first = build(terms, found.form)?;
+            let second = choice_low(terms, found.rest, width, fuel - 1)?;
+            chosen(terms, found.c, found.is_first, first, second)
+        }
+        None => plain_low(terms, a, width),
+    }
+}
+
 /// The operation on the low bits of a term and a term of that width.
 fn joined(terms: &mut Terms, kind: Kind, a: TermId, b: TermId) -> Result<TermId, NoMemory>
     requires a { a.index < length terms.old }
@@ -221,7 +322,7 @@ fn shallow_low(terms: &mut Terms, a: TermId, width: u32) -> Result<TermId, NoMem
             let second = plain_low(terms, found.rest, width)?;
             joined(terms, found.kind, first, second)
         }
-        None => plain_low(terms, a, width),
+        None => choice_low(terms, a, width, CHOICES),
     }
 }
 
@@ -241,6 +342,6 @@ pub fn low(terms: &mut Terms, a: TermId, width: u32) -> Result<TermId, NoMemory>
             let second = shallow_low(terms, found.rest, width)?;
             joined(terms, found.kind, first, second)
         }
-        None => plain_low(terms, a, width),
+        None => choice_low(terms, a, width, CHOICES),
     }
 }
