@@ -3,7 +3,7 @@ use Rattle.std.proofs.lemmas.Nat.{mul-le}
 use Rattle.term_rules.specs.Wrapping.{HaveOneOrder, IsExactProduct, IsExactQuotient}
 use Rattle.term_rules.specs.declared.comparing.Scaled.{Scaled}
 use Rattle.term_rules.proofs.Simplifying.{same_tree}
-use Rattle.term_rules.proofs.Common.{ap, ℕ, ◌≡◌, ◌<◌, ◌≤◌, ◌+◌, ◌*◌, ◌/◌, ◌%◌, Bool, true, false, cond, eqb, inl, inr, nat_lt, arith, ◌∙◌, sym, refl, cases_lt, lt-ltb, le-ltb, ne_eqb, div-add-mod', quotient, remainder, List, length, TermId, Term, Tree, value_of, width_of, term_at, bit_at, tree_in}
+use Rattle.term_rules.proofs.Common.{ap, ℕ, ◌≡◌, ◌<◌, ◌≤◌, ◌+◌, ◌*◌, ◌/◌, ◌%◌, true, false, eqb, inl, inr, nat_lt, arith, ◌∙◌, sym, refl, cases_lt, lt-ltb, le-ltb, ne_eqb, div-add-mod', quotient, remainder, List, length, TermId, Term, Tree, value_of, width_of, term_at, bit_at, tree_in}
 
 pub lt-scaled : (k a b : ℕ) → 1 ≤ k → nat_lt (a * k) (b * k) ≡ nat_lt a b
 lt-scaled k a b some = elim (cases_lt a b) as (λ _. nat_lt (a * k) (b * k) ≡ nat_lt a b) [

@@ -34,7 +34,7 @@ pub fn before_widening(terms: &Terms, a: TermId) -> Option<TermId>
 }
 
 /// The two at the width that the first had before it was widened, if the second was widened from
-/// that too, or is a constant that fits it.
+/// that width or less, or is a constant that fits it.
 pub fn shrunk_pair(terms: &Terms, a: TermId, b: TermId) -> Option<Shrunk>
     requires a { a.index < length terms.now }
     requires b { b.index < length terms.now }
@@ -54,10 +54,10 @@ pub fn shrunk_pair(terms: &Terms, a: TermId, b: TermId) -> Option<Shrunk>
         return None;
     }
     let second = before_widening(terms, b)?;
-    if terms.width(second) == width {
+    if terms.width(second) <= width {
         Some(Shrunk {
             first,
-            second: Form::Known(second),
+            second: widened(terms, second, width),
         })
     } else {
         None

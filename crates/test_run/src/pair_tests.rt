@@ -233,6 +233,53 @@ tv 1 turns 4 blocks 2 bytes 8 rounds 64 conflicts 0 weight 100000
   source returns 0
   target returns poison
 correct 0 incorrect 1 unknown 0 refused 0 signature 0 missing 0 extra 0
+=== exact quotients by one number are compared as their dividends, without a search
+tv check --conflicts 1 A B
+--- A
+define i1 @f(i64 %x, i64 %y) {
+  %a = udiv exact i64 %x, 7
+  %b = udiv exact i64 %y, 7
+  %r = icmp ult i64 %a, %b
+  ret i1 %r
+}
+define i1 @g(i64 %x, i64 %y) {
+  %a = mul nuw i64 %x, 47
+  %b = mul nuw i64 %y, 47
+  %r = icmp ne i64 %a, %b
+  ret i1 %r
+}
+--- B
+define i1 @f(i64 %x, i64 %y) {
+  %r = icmp ult i64 %x, %y
+  ret i1 %r
+}
+define i1 @g(i64 %x, i64 %y) {
+  %r = icmp ne i64 %x, %y
+  ret i1 %r
+}
+--- 0
+tv 1 turns 4 blocks 2 bytes 8 rounds 64 conflicts 1 weight 100000
+@f correct
+@g correct
+correct 2 incorrect 0 unknown 0 refused 0 signature 0 missing 0 extra 0
+=== a product of what is chosen is chosen among the products, without a search
+tv check --conflicts 1 A B
+--- A
+define i32 @f(i1 %c, i32 %x) {
+  %s = select i1 %c, i32 %x, i32 9
+  %r = mul i32 %s, 3
+  ret i32 %r
+}
+--- B
+define i32 @f(i1 %c, i32 %x) {
+  %a = mul i32 %x, 3
+  %r = select i1 %c, i32 %a, i32 27
+  ret i32 %r
+}
+--- 0
+tv 1 turns 4 blocks 2 bytes 8 rounds 64 conflicts 1 weight 100000
+@f correct
+correct 1 incorrect 0 unknown 0 refused 0 signature 0 missing 0 extra 0
 === exact may be dropped
 tv check A B
 --- A
