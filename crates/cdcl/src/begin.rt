@@ -22,6 +22,15 @@ pub fn code_of(literal: Lit) -> u32 {
     variable.wrapping_mul(2).wrapping_add(sign)
 }
 
+/// The numbers of a clause's literals.
+fn codes_of(alloc: Global, clause: &Clause) -> Result<Vec<u32>, NoMemory> {
+    let mut codes = Vec::new(alloc);
+    for literal in clause.literals() {
+        codes.push(code_of(*literal))?;
+    }
+    Ok(codes)
+}
+
 /// The ranks of variables: first these, in their order, and then all others.
 fn ranks_of(alloc: Global, variables: usize, first: &[Lit]) -> Result<Vec<u32>, NoMemory> {
     let mut ranks = zeros(alloc, variables)?;
@@ -42,8 +51,7 @@ fn ranks_of(alloc: Global, variables: usize, first: &[Lit]) -> Result<Vec<u32>, 
 
 impl Solver {
     /// No clauses yet, over this many variables and 0.
-    fn empty(alloc: Global, variables: usize, first: &[Lit]) -> Result<Solver, NoMemory> {
-        let ranks = ranks_of(alloc, variables, first)?;
+    fn empty(alloc: Global, variables: usize, ranks: Vec<u32>) -> Result<Solver, NoMemory> {
         Ok(Solver {
             alloc,
             clauses: Clauses::new(alloc)?,
@@ -63,6 +71,9 @@ impl Solver {
             eliminated: Vec::new(alloc),
             cleared: 0,
             work: 0,
+            looks: 0,
+            equalities: Vec::new(alloc),
+            is_swept: false,
             is_reduced: false,
             is_failed: false,
             luby: Luby::new(),
@@ -78,26 +89,43 @@ impl Solver {
             return Ok(None);
         }
         let variables = (cnf.variables as usize).saturating_add(1);
-        let mut solver = Solver::empty(alloc, variables, first)?;
+        let ranks = ranks_of(alloc, variables, first)?;
+        let mut solver = Solver::empty(alloc, variables, ranks)?;
         for clause in cnf.clauses.as_slice() {
-            solver.give(clause)?;
+            let literals = codes_of(alloc, clause)?;
+            solver.give(&literals)?;
         }
-        solver.given = solver.clauses.count();
-        for variable in 1..variables {
-            solver.order.insert(short(variable))?;
-        }
+        solver.begin()?;
         Ok(Some(solver))
     }
 
-    /// Adds a given clause: it is watched, or its one literal is true.
-    fn give(&mut self, clause: &Clause) -> Result<(), NoMemory> {
-        let mut literals = Vec::new(self.alloc);
-        for literal in clause.literals() {
-            literals.push(code_of(*literal))?;
+    /// A solver of the same given clauses, which has learned nothing. It keeps the last values.
+    pub fn renewed(&self) -> Result<Solver, NoMemory> {
+        let ranks = self.order.ranks(self.alloc)?;
+        let mut solver = Solver::empty(self.alloc, self.removed.len(), ranks)?;
+        for number in 1..self.given.wrapping_add(1) {
+            let literals = self.literals_of(number)?;
+            solver.give(&literals)?;
         }
-        let number = self.clauses.add(&literals)?;
+        solver.begin()?;
+        solver.phases = Vec::from_slice(self.alloc, &self.phases)?;
+        Ok(solver)
+    }
+
+    /// All clauses are given: each variable may be decided.
+    fn begin(&mut self) -> Result<(), NoMemory> {
+        self.given = self.clauses.count();
+        for variable in 1..self.removed.len() {
+            self.order.insert(short(variable))?;
+        }
+        Ok(())
+    }
+
+    /// Adds a given clause: it is watched, or its one literal is true.
+    fn give(&mut self, literals: &[u32]) -> Result<(), NoMemory> {
+        let number = self.clauses.add(literals)?;
         self.watches.extend()?;
-        match literals.as_slice() {
+        match literals {
             [] => self.conflict = number,
             [only] => self.force(*only, number)?,
             _ => self.watch(number),

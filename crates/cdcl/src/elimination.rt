@@ -6,7 +6,7 @@
 
 use crate::learning::chain_of;
 use crate::search::Solver;
-use crate::tables::{byte_at, put_byte, short};
+use crate::tables::{at, byte_at, put_byte, short};
 use crate::trail::opposite;
 use support::NoMemory;
 
@@ -59,6 +59,16 @@ impl Solver {
                 self.occurrences.add(&self.clauses, number)?;
                 self.queue.push(number)?;
             }
+        }
+        self.gather_equalities()
+    }
+
+    /// Takes the clauses that make gates equal to the given ones.
+    fn gather_equalities(&mut self) -> Result<(), NoMemory> {
+        for index in 0..self.equalities.len() {
+            let number = at(&self.equalities, short(index));
+            self.occurrences.add(&self.clauses, number)?;
+            self.queue.push(number)?;
         }
         Ok(())
     }

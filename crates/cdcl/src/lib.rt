@@ -14,18 +14,22 @@
 mod analysis;
 mod begin;
 mod clauses;
+mod definitions;
 mod elimination;
 mod learning;
 mod luby;
 mod needed;
 mod occurrences;
 mod order;
+mod patterns;
 mod propagation;
 mod search;
 mod subsumption;
+mod sweeping;
 mod tables;
 mod trail;
 mod units;
 mod watches;
+mod windows;
 
 pub use search::{Guessed, Solver};

@@ -1,6 +1,6 @@
 //! Which variable is decided next: the most active one, by a heap.
 
-use crate::tables::{at, count, put, zeros};
+use crate::tables::{at, count, put, short, zeros};
 use std::alloc::Global;
 use support::NoMemory;
 
@@ -14,6 +14,9 @@ const RISE_PART: u64 = 19;
 const MOST_RISE: u64 = 1 << 52;
 
 const DIVIDED: u32 = 32;
+
+/// The place of a variable that may not be in the heap.
+const BARRED: u32 = u32::MAX;
 
 /// No path in a heap is longer.
 const MOST_DEPTH: u32 = 32;
@@ -40,6 +43,45 @@ impl Order {
             ranks,
             rise: FIRST_RISE,
         })
+    }
+
+    /// The same, but with the greatest variable first and with no variable let into the heap.
+    pub fn barred(alloc: Global, variables: usize) -> Result<Order, NoMemory> {
+        let mut ranks = zeros(alloc, variables)?;
+        for index in 0..variables {
+            put(&mut ranks, short(index), u32::MAX - short(index));
+        }
+        let mut order = Order::new(alloc, variables, ranks)?;
+        for place in order.places.iter_mut() {
+            *place = BARRED;
+        }
+        Ok(order)
+    }
+
+    /// The variables' ranks.
+    pub fn ranks(&self, alloc: Global) -> Result<Vec<u32>, NoMemory> {
+        Ok(Vec::from_slice(alloc, &self.ranks)?)
+    }
+
+    /// Puts variables into the heap, without scores.
+    pub fn admit(&mut self, variables: &[u32]) -> Result<(), NoMemory> {
+        self.rise = FIRST_RISE;
+        for variable in variables {
+            put(&mut self.places, *variable, 0);
+            if let Some(cell) = self.scores.get_mut(*variable as usize) {
+                *cell = 0;
+            }
+            self.insert(*variable)?;
+        }
+        Ok(())
+    }
+
+    /// Empties the heap; these variables are no longer let into it.
+    pub fn bar(&mut self, variables: &[u32]) {
+        self.heap.clear();
+        for variable in variables {
+            put(&mut self.places, *variable, BARRED);
+        }
     }
 
     fn score(&self, variable: u32) -> u64 {
@@ -134,9 +176,9 @@ impl Order {
         if let Some(cell) = self.scores.get_mut(variable as usize) {
             *cell = score;
         }
-        let place = at(&self.places, variable);
-        if place > 0 {
-            self.rise_from(place.wrapping_sub(1), variable);
+        let index = at(&self.places, variable).wrapping_sub(1);
+        if index < count(&self.heap) {
+            self.rise_from(index, variable);
         }
     }
 

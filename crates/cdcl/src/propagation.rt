@@ -31,6 +31,7 @@ impl Solver {
             if watch == 0 {
                 break;
             }
+            self.looks = self.looks.wrapping_add(1);
             let after = self.watches.after(watch);
             if conflict > 0 {
                 self.watches.link(literal, watch);

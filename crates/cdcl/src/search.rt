@@ -61,6 +61,12 @@ pub struct Solver {
     pub(crate) cleared: u32,
     /// How many more literals may be looked at before the search.
     pub(crate) work: u64,
+    /// How many watches were looked at.
+    pub(crate) looks: u64,
+    /// The numbers of the clauses that make gates equal.
+    pub(crate) equalities: Vec<u32>,
+    /// Whether equal gates were looked for.
+    pub(crate) is_swept: bool,
     /// Whether variables were tried, to resolve them away.
     pub(crate) is_reduced: bool,
     /// Whether a step could not be made.
@@ -73,7 +79,7 @@ pub struct Solver {
 
 /// How far the search is.
 #[derive(Clone, Copy, PartialEq, Eq)]
-enum Course {
+pub enum Course {
     GoesOn,
     /// Each variable has a value.
     Full,
@@ -100,7 +106,7 @@ impl Solver {
     }
 
     /// Searches on, for at most this many conflicts.
-    fn run(&mut self, assumed: &[u32], most: u64) -> Result<Course, NoMemory> {
+    pub fn run(&mut self, assumed: &[u32], most: u64) -> Result<Course, NoMemory> {
         let mut left = most;
         for _ in 0..u64::MAX {
             let length = self.luby.next().saturating_mul(RESTART_UNIT).min(left);

@@ -87,6 +87,11 @@ impl Solver {
         self.add_part(&literals, &chain)
     }
 
+    /// The literals of a clause.
+    pub fn literals_of(&self, number: u32) -> Result<Vec<u32>, NoMemory> {
+        self.without(number, u32::MAX)
+    }
+
     /// The literals of a clause but one.
     fn without(&self, number: u32, one: u32) -> Result<Vec<u32>, NoMemory> {
         let mut literals = Vec::new(self.alloc);
