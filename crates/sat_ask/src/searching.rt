@@ -12,11 +12,10 @@ use std::alloc::Global;
 use support::NoMemory;
 
 /// The answer to which models the clauses have, whose ordered variables are words of these widths,
-/// each most significant bit first. Searches in turn, under other numbers and signs for the
-/// variables, find whether there is a model; only if so are the clauses searched for the least.
-/// A refutation has the steps that its end needs, and no others.
-/// The limit is for all of them together: each search has what the log so far leaves of it, and an
-/// answer that is spent has the steps of them all.
+/// each most significant bit first. Guesses that are tried find whether there is a model; only if so is
+/// the least one sought. A refutation has the steps that its end needs, and no others.
+/// Under a limit all guesses together have as many conflicts, and where they fail a search in order
+/// learns as many clauses: an answer that is spent has exactly these.
 pub fn search(
     alloc: Global,
     cnf: &Cnf,
@@ -28,7 +27,7 @@ pub fn search(
     ensures used { IfOk result (UsesEachStepOf cnf.now.clauses) }
 {
     match sat_restarts::search(alloc, cnf, widths, limit)? {
-        Searched::Model { values, learned } => least(alloc, cnf, widths, values, learned, limit),
+        Searched::Model { values, budget } => least(alloc, cnf, widths, values, budget, limit),
         Searched::Refuted(log) => {
             let needed = trim(alloc, cnf.clauses.as_slice(), log)?;
             Ok(Answer::Unsat(needed))

@@ -1,5 +1,5 @@
 -- Models of clauses and of those that are learned from them.
-use Rattle.sat_restarts.proofs.Common.{ℕ, ◌≡◌, ◌<◌, ◌++◌, Bool, true, List, [], ◌∷◌, length, map, refl, and_from, and_parts, Lit, IsModel, clause_true, clauses_true, values_of, Step, IsSoundAt, standing-true, IsLeast, standing}
+use Rattle.sat_restarts.proofs.Common.{ℕ, ◌≡◌, ◌++◌, Bool, true, List, [], ◌∷◌, map, refl, and_from, and_parts, Lit, IsModel, clause_true, clauses_true, values_of, Step, standing}
 
 pub true-left : (v : ℕ → Bool) (cs ds : List (List Lit)) → clauses_true v (cs ++ ds) ≡ true → clauses_true v cs ≡ true
 true-left v [] ds t = refl
@@ -20,13 +20,3 @@ true-both v (c ∷ cs) ds t u =
 module _ (variables : ℕ) (clauses : List (List Lit)) (log : List Step) where
   pub model-standing : (values : List Bool) → IsModel variables (standing clauses log) values → IsModel variables clauses values
   model-standing values model = (model.0, true-left (values_of values) clauses (map (λ (s : Step). s.clause) log) model.1)
-
-  pub standing-model : ((index : ℕ) → index < length log → IsSoundAt clauses log index) → (values : List Bool) → IsModel variables clauses values → IsModel variables (standing clauses log) values
-  standing-model sound values model = (model.0, standing-true (values_of values) clauses log sound model.1)
-
-  pub least-standing : (front : ℕ) → ((index : ℕ) → index < length log → IsSoundAt clauses log index) → (values : List Bool)
-      → IsLeast variables front (standing clauses log) values → IsLeast variables front clauses values
-  least-standing front sound values h = record {
-    model = model-standing values h.model;
-    least = λ others model less. h.least others (standing-model sound others model) less;
-  }

@@ -1,12 +1,21 @@
 -- What is learned from clauses has no other variables.
-use Rattle.sat_restarts.proofs.Common.{option_and_then, ℕ, zero, suc, ◌≡◌, ◌<◌, ◌≤◌, ◌++◌, ◌⊎◌, inl, inr, List, [], ◌∷◌, Some, length, get_or, slice_get, take, map, sym, subst, refl, cond_some, option_and_then_some, same_Some, slice_get_within, take-length, Lit, AreWithin, Step, Has, chain_resolvent, clause_numbered, resolved_along, IsSoundAt, standing_before, AreInRange, standing}
+use Rattle.sat_restarts.proofs.Common.{option_and_then, ℕ, zero, suc, ◌≡◌, ◌<◌, ◌≤◌, ◌++◌, ◌⊎◌, inl, inr, List, [], ◌∷◌, Some, length, arith, get_or, slice_get, take, map, sym, subst, refl, cond_some, option_and_then_some, same_Some, slice_get_within, take-length, Lit, AreWithin, Step, Has, chain_resolvent, clause_numbered, resolved_along, IsSoundAt, standing_before, AreInRange, standing}
 use Rattle.clause_log.specs.Resolution.{joined, resolvent}
 use Rattle.clause_log.proofs.Membership.{from_joined}
 use Rattle.clause_search.proofs.Findings.{among-numbered}
-use Rattle.cnf_renumber.proofs.Inverse.{append-has, place-has}
 
 abbrev clauses_of : List Step → List (List Lit)
 clauses_of steps = map (λ s. s.clause) steps
+
+place-has : {X : Type 0} (xs : List X) (i : ℕ) (d : X) → i < length xs → Has xs (get_or xs i d)
+place-has [] i d lt = absurd (omega arith)
+place-has (x ∷ xs) zero d lt = inl refl
+place-has (x ∷ xs) (suc i) d lt = inr (place-has xs i d (omega arith))
+
+append-has : (cs ds : List (List Lit)) (c : List Lit) → Has (cs ++ ds) c → Has cs c ⊎ Has ds c
+append-has [] ds c h = inr h
+append-has (d ∷ cs) ds c (inl e) = inl (inl e)
+append-has (d ∷ cs) ds c (inr h) = elim (append-has cs ds c h) [ inl g ↦ inl (inr g) | inr g ↦ inr g ]
 
 right-has : (cs ds : List (List Lit)) (c : List Lit) → Has ds c → Has (cs ++ ds) c
 right-has [] ds c h = h
@@ -64,6 +73,3 @@ module _ (n : ℕ) where
 
     pub standing-range : AreInRange n (standing clauses log)
     standing-range = subst (λ (ss : List Step). AreInRange n (clauses ++ clauses_of ss)) (take-length log) (before-range (length log))
-
-    pub learned-range : AreInRange n (map (λ s. s.clause) log)
-    learned-range c h l has = standing-range c (right-has clauses (clauses_of log) c h) l has

@@ -1,5 +1,5 @@
 -- One more bit of a least model is settled.
-use Rattle.sat_restarts.proofs.Common.{ℕ, ◌≡◌, ◌+◌, ◌-◌, ◌++◌, ◌⊎◌, inl, inr, Bool, true, false, List, [], ◌∷◌, length, length-append, get_or, take, arith, sym, subst, refl, ap, ◌∙◌, take-append_seam, cases_eq, true≢false, Lit, IsModel, clauses_true, values_of, Step, Refutes, refuted-false, standing-true, IsLess, standing, AreLearned, Agree, IsExtended, IsSettled}
+use Rattle.sat_restarts.proofs.Common.{ℕ, ◌≡◌, ◌+◌, ◌-◌, ◌++◌, ◌⊎◌, inl, inr, Bool, true, false, List, [], ◌∷◌, length, length-append, get_or, take, arith, sym, subst, refl, ap, ◌∙◌, take-append_seam, cases_eq, true≢false, Lit, IsModel, clauses_true, values_of, Step, Refutes, refuted-false, standing-true, IsLess, Agree, IsExtended, IsSettled}
 use Rattle.clause_lits.specs.declared.cnf.Cnf.{Cnf}
 use Rattle.sat_restarts.proofs.Models.{model-standing, true-both, true-left, true-right}
 
@@ -178,14 +178,12 @@ extended_none cnf = record {
     append-none (c ∷ cs) = ap (λ (ds : List (List Lit)). c ∷ ds) (append-none cs)
 
 -- nothing is settled at first
-pub settled-none : (question cnf : Cnf) (values : List Bool) (log : List Step) → AreLearned question.clauses log → cnf.variables ≡ question.variables → cnf.clauses ≡ standing question.clauses log
-    → IsModel question.variables question.clauses values → IsSettled question 0 cnf values
-settled-none question cnf values log learned same is model = record {
+pub settled-none : (question cnf : Cnf) (values : List Bool) → cnf.variables ≡ question.variables → cnf.clauses ≡ question.clauses → IsModel question.variables question.clauses values
+    → IsSettled question 0 cnf values
+settled-none question cnf values same is model = record {
   variables = same;
   model = model;
   least = λ others m less. absurd (omega (arith, less.within));
-  part = λ others m. (model-standing question.variables question.clauses log others (subst (λ (cs : List (List Lit)). IsModel question.variables cs others) is m), λ i lt. absurd (omega (arith, lt)));
-  whole = λ others m agree.
-      subst (λ (cs : List (List Lit)). clauses_true (values_of others) cs ≡ true) (sym is)
-      (standing-true (values_of others) question.clauses log learned.careful.sound m.1);
+  part = λ others m. (subst (λ (cs : List (List Lit)). IsModel question.variables cs others) is m, λ i lt. absurd (omega (arith, lt)));
+  whole = λ others m agree. subst (λ (cs : List (List Lit)). clauses_true (values_of others) cs ≡ true) (sym is) m.1;
 }

@@ -1,6 +1,8 @@
 //! A solver that is asked for one bit after the other.
 
-use crate::guessing::{guess_under, guesser};
+use crate::budget::Budget;
+use crate::guessing::guess_under;
+use crate::orders::by_significance;
 use cdcl::{Guessed, Solver};
 use clause_lits::{Assignment, Clause, Cnf, Lit};
 use clause_log::{Log, Step};
@@ -8,8 +10,8 @@ use smallvec::SmallVec;
 use std::alloc::Global;
 use support::{NoMemory, Sequence};
 
-/// How many conflicts the solver may have for a bit.
-const BIT_CONFLICTS: u64 = 20_000;
+/// How often the solver goes on with a bit, each time for twice as many conflicts as before, from 1 on.
+const MOST_TRIES: u32 = 15;
 
 /// A solver, and the literals of the bits that are settled.
 #[derive(Drop)]
@@ -30,7 +32,8 @@ impl Asking {
         widths: &[u32],
         values: &Assignment,
     ) -> Result<Asking, NoMemory> {
-        let mut solver = guesser(alloc, cnf, widths, None)?;
+        let first = by_significance(alloc, widths)?;
+        let mut solver = Solver::of(alloc, cnf, &first)?;
         if let Some(solver) = &mut solver {
             solver.prefer(values.as_slice(), cnf.front)?;
         }
@@ -61,18 +64,37 @@ impl Asking {
 
     /// Whether the next bit can be 0, with the bits before as they are settled. Nothing of the answer is
     /// promised.
-    pub fn ask(&mut self) -> Result<Guessed, NoMemory> {
+    pub fn ask(&mut self, budget: &mut Budget) -> Result<Guessed, NoMemory> {
         let zero = self.next_literal(false);
-        let Some(solver) = &mut self.solver else {
-            return Ok(Guessed::Spent);
-        };
         self.assumed.push(zero)?;
-        let guessed = guess_under(self.front, solver, self.assumed.as_slice(), BIT_CONFLICTS)?;
+        let guessed = self.guess(budget)?;
         self.assumed.pop();
-        if let Guessed::Model(values) = &guessed {
+        if let Guessed::Model(values) = &guessed
+            && let Some(solver) = &mut self.solver
+        {
             solver.prefer(values.as_slice(), self.front)?;
         }
         Ok(guessed)
+    }
+
+    /// What the solver guesses of the assumed literals.
+    fn guess(&mut self, budget: &mut Budget) -> Result<Guessed, NoMemory> {
+        let Some(solver) = &mut self.solver else {
+            return Ok(Guessed::Spent);
+        };
+        let mut most = 1;
+        for _ in 0..MOST_TRIES {
+            if budget.is_spent() {
+                break;
+            }
+            let taken = budget.take(most);
+            match guess_under(self.front, solver, self.assumed.as_slice(), taken)? {
+                Guessed::Spent => {}
+                found => return Ok(found),
+            }
+            most = most.saturating_mul(2);
+        }
+        Ok(Guessed::Spent)
     }
 
     /// The steps that the last answer needs, after this many clauses.

@@ -5,18 +5,18 @@
 //! again and stay among the clauses, and the last one, whose literals are opposites of assumed ones, has
 //! to be refuted by the clauses of these.
 
-ghost use Rattle.std.specs.Prelude.{◌≡◌, ◌+◌, ◌++◌, ◌∷◌, [], ◌<◌, ◌≤◌, ◌-◌, IfOk, IfSome, IsTrue, OnOk, List, None, length, map, take};
+ghost use Rattle.std.specs.Prelude.{◌≡◌, ◌+◌, ◌++◌, ◌∷◌, [], ◌<◌, ◌≤◌, ◌-◌, IfOk, IfSome, IsTrue, OnOk, length, map, take};
 ghost use Rattle.clause_lits.specs.Meaning.{IsModel};
-ghost use Rattle.clause_log.specs.Refutation.{AreSound, Refutes};
-ghost use Rattle.clause_log.specs.declared.step.Step.{Step as SpecStep};
+ghost use Rattle.clause_log.specs.Refutation.{AreSound};
 ghost use Rattle.clause_search.specs.Outcome.{IsLeast};
 ghost use Rattle.clause_search.specs.Searching.{standing};
-ghost use Rattle.sat_restarts.specs.Searched.{AreLearned};
-ghost use Rattle.sat_restarts.specs.Settled.{IsExtended, IsSettled};
+ghost use Rattle.sat_restarts.specs.Settled.{IsExtended, IsFound, IsSettled};
 
 use crate::asking::Asking;
-use crate::running::with_steps;
-use crate::searching::{Searched, search};
+use crate::attempts::Guess;
+use crate::budget::Budget;
+use crate::guessing::guessed;
+use crate::searching::Searched;
 use cdcl::Guessed;
 use clause_lits::{Assignment, Clause, Cnf, Lit, holds};
 use clause_log::{Log, Step, are_sound};
@@ -32,16 +32,6 @@ struct Settled {
     values: Assignment,
 }
 
-/// What is guessed of a bit as 0.
-#[derive(Drop)]
-enum Guess {
-    /// A model has it so.
-    Model(Assignment),
-    /// None has, by this log.
-    Refuted(Log),
-    Nothing,
-}
-
 /// What is guessed of a bit as 0, and the clauses with those that were learned from them.
 #[derive(Drop)]
 struct Asked {
@@ -49,35 +39,68 @@ struct Asked {
     guess: Guess,
 }
 
-/// The least model on the ordered variables, from a model and learned clauses. With the bits before
-/// settled, a bit is 0 where a model has it so: the last model found, or one that is found then.
+/// What is known of a bit as 0.
+#[derive(Drop)]
+enum Found {
+    /// A model has it so.
+    Model(Assignment),
+    /// None has.
+    Refuted,
+    Nothing,
+}
+
+/// The least model on the ordered variables, from a model; `None` where the guesses fail within the budget.
+/// With the bits before settled, a bit is 0 where a model has it so: the last model found, or one that is
+/// found then.
 pub fn least_by_bits(
     alloc: Global,
     cnf: &Cnf,
     widths: &[u32],
     values: Assignment,
-    learned: Log,
-) -> Result<Assignment, NoMemory>
-    requires model { IsModel cnf.now.variables cnf.now.clauses values }
-    requires learned { AreLearned cnf.now.clauses learned }
-    ensures { IfOk result (IsLeast cnf.now.variables cnf.now.front cnf.now.clauses) }
+    mut budget: Budget,
+) -> Result<Option<Assignment>, NoMemory>
+    requires { IsModel cnf.now.variables cnf.now.clauses values }
+    ensures { IfOk result (λ r. IfSome r (IsLeast cnf.now.variables cnf.now.front cnf.now.clauses)) }
 {
     let mut asking = Asking::new(alloc, cnf, widths, &values)?;
     let mut settled = Settled {
-        cnf: with_steps(alloc, cnf, learned.as_slice())?,
+        cnf: duplicate(alloc, cnf)?,
         values,
     };
     for bit in 0..cnf.front {
-        settled = settle(alloc, cnf, widths, &mut asking, settled, bit)?;
+        let Some(next) = settle(alloc, cnf, widths, &mut asking, settled, bit, &mut budget)? else {
+            return Ok(None);
+        };
+        settled = next;
         let value = settled.values.as_slice().get(bit as usize);
         let positive = value.copied().unwrap_or(false);
         asking.settle(positive, settled.cnf.clauses.len())?;
     }
-    Ok(settled.values)
+    Ok(Some(settled.values))
+}
+
+/// The same clauses over the same variables.
+fn duplicate(alloc: Global, cnf: &Cnf) -> Result<Cnf, NoMemory>
+    ensures variables { IfOk result (λ r. r.variables ≡ cnf.now.variables) }
+    ensures clauses { IfOk result (λ r. r.clauses ≡ cnf.now.clauses) }
+{
+    let clauses = duplicates(alloc, cnf.clauses.as_slice())?;
+    Ok(Cnf::new(cnf.variables, clauses, cnf.front))
+}
+
+/// The same clauses.
+fn duplicates(alloc: Global, clauses: &[Clause]) -> Result<Sequence<Clause>, NoMemory>
+    ensures { IfOk result (λ r. r ≡ clauses.now) }
+{
+    let mut all = Sequence::from_vec(Vec::new(alloc));
+    for clause in clauses {
+        all.push(clause.duplicate(alloc)?)?;
+    }
+    Ok(all)
 }
 
 /// Settles one more ordered variable: it is 0 where a model that agrees in the bits before has it
-/// so.
+/// so. `None` where the guess fails.
 fn settle(
     alloc: Global,
     question: &Cnf,
@@ -85,10 +108,11 @@ fn settle(
     asking: &mut Asking,
     settled: Settled,
     bit: u64,
-) -> Result<Settled, NoMemory>
+    budget: &mut Budget,
+) -> Result<Option<Settled>, NoMemory>
     requires settled { IsSettled question.now bit settled.cnf settled.values }
     requires within { bit < question.now.front }
-    ensures { IfOk result (λ r. IsSettled question.now (bit + 1) r.cnf r.values) }
+    ensures { IfOk result (λ r. IfSome r (λ s. IsSettled question.now (bit + 1) s.cnf s.values)) }
 {
     let Settled { cnf, values } = settled;
     let zero = Lit {
@@ -97,29 +121,34 @@ fn settle(
     };
     if !*values.get(bit as usize) {
         let zeroed = with_literal(alloc, cnf, zero)?;
-        return Ok(Settled {
+        return Ok(Some(Settled {
             cnf: zeroed,
             values,
-        });
+        }));
     }
-    let asked = ask_next(alloc, asking, cnf)?;
+    let asked = ask_next(alloc, asking, cnf, budget)?;
     let more = with_literal(alloc, asked.cnf, zero)?;
-    let found = model_of(alloc, &more, widths, asked.guess)?;
-    match found {
-        Some(values) => Ok(Settled { cnf: more, values }),
-        None => {
+    match found_of(alloc, &more, widths, asked.guess, budget)? {
+        Found::Model(values) => Ok(Some(Settled { cnf: more, values })),
+        Found::Refuted => {
             let ones = with_literal(alloc, without_last(more), zero.opposite())?;
-            Ok(Settled { cnf: ones, values })
+            Ok(Some(Settled { cnf: ones, values }))
         }
+        Found::Nothing => Ok(None),
     }
 }
 
 /// What the solver guesses of the next bit as 0, and the clauses with the steps that it needs.
 #[tactic(auto, using(crate::proofs::Settling::extended_none))]
-fn ask_next(alloc: Global, asking: &mut Asking, cnf: Cnf) -> Result<Asked, NoMemory>
+fn ask_next(
+    alloc: Global,
+    asking: &mut Asking,
+    cnf: Cnf,
+    budget: &mut Budget,
+) -> Result<Asked, NoMemory>
     ensures { IfOk result (λ r. IsExtended cnf r.cnf) }
 {
-    match asking.ask()? {
+    match asking.ask(budget)? {
         Guessed::Model(values) => Ok(Asked {
             cnf,
             guess: Guess::Model(values),
@@ -141,42 +170,34 @@ fn ask_next(alloc: Global, asking: &mut Asking, cnf: Cnf) -> Result<Asked, NoMem
     }
 }
 
-/// A model of the clauses, or `None` where there is none: as it is guessed, if that holds, and else as a
-/// search finds.
-fn model_of(
+/// What is known of the clauses: as it is guessed, if that holds, and else as other solvers guess.
+fn found_of(
     alloc: Global,
     cnf: &Cnf,
     widths: &[u32],
     guess: Guess,
-) -> Result<Option<Assignment>, NoMemory>
-    ensures some { IfOk result (λ r. IfSome r (IsModel cnf.now.variables cnf.now.clauses)) }
-    ensures none { IfOk result (λ r. r ≡ None → (log : List SpecStep) × Refutes cnf.now.clauses log) }
+    budget: &mut Budget,
+) -> Result<Found, NoMemory>
+    ensures { IfOk result (IsFound cnf.now.variables cnf.now.clauses) }
 {
     match guess {
         Guess::Model(values) => {
             if is_model(cnf, &values) {
-                return Ok(Some(values));
+                return Ok(Found::Model(values));
             }
         }
         Guess::Refuted(log) => {
             if refutes(alloc, cnf.clauses.as_slice(), log.as_slice())? {
-                return Ok(None);
+                return Ok(Found::Refuted);
             }
         }
         Guess::Nothing => {}
     }
-    model_by_search(alloc, cnf, widths)
-}
-
-/// A model of the clauses that a search finds, or `None` where there is none.
-fn model_by_search(alloc: Global, cnf: &Cnf, widths: &[u32]) -> Result<Option<Assignment>, NoMemory>
-    ensures some { IfOk result (λ r. IfSome r (IsModel cnf.now.variables cnf.now.clauses)) }
-    ensures none { IfOk result (λ r. r ≡ None → (log : List SpecStep) × Refutes cnf.now.clauses log) }
-{
-    match search(alloc, cnf, widths, None)? {
-        Searched::Model { values, .. } => Ok(Some(values)),
-        Searched::Refuted(_) => Ok(None),
-        Searched::Spent(_) => unreachable!(),
+    match guessed(alloc, cnf, widths, budget)? {
+        Some(Searched::Model { values, .. }) => Ok(Found::Model(values)),
+        Some(Searched::Refuted(_log)) => Ok(Found::Refuted),
+        Some(Searched::Spent(_log)) => Ok(Found::Nothing),
+        None => Ok(Found::Nothing),
     }
 }
 

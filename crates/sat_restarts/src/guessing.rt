@@ -6,28 +6,26 @@
 ghost use Rattle.std.specs.Prelude.{IfOk, IfSome, None};
 ghost use Rattle.sat_restarts.specs.Searched.{IsSearched};
 
+use crate::attempts::{Attempts, Guess};
+use crate::budget::Budget;
 use crate::searching::Searched;
 use cdcl::{Guessed, Solver};
 use clause_lits::{Assignment, Cnf, Lit, holds};
 use clause_log::Log;
-use cnf_renumber::by_bit;
 use log_tidy::tidy;
 use std::alloc::Global;
 use step_ledger::refutes;
-use support::{NoMemory, Sequence};
+use support::NoMemory;
 
 /// How many conflicts come before variables are resolved away.
 const FIRST_CONFLICTS: u64 = 50;
 
-/// A model, if the values are one.
-fn model_of(alloc: Global, cnf: &Cnf, values: Assignment) -> Option<Searched>
+/// A model, if the values are one, with what is left of the budget.
+fn model_of(cnf: &Cnf, values: Assignment, budget: Budget) -> Option<Searched>
     ensures { IfSome result (IsSearched cnf.now.variables cnf.now.clauses None) }
 {
     if values.len() as u64 == cnf.variables && holds(cnf, &values) {
-        Some(Searched::Model {
-            values,
-            learned: Sequence::from_vec(Vec::new(alloc)),
-        })
+        Some(Searched::Model { values, budget })
     } else {
         None
     }
@@ -46,21 +44,6 @@ fn refutation_of(alloc: Global, cnf: &Cnf, log: Log) -> Result<Option<Searched>,
     }
 }
 
-/// A solver for guesses, or `None` where there is a limit, since a guess counts no steps. The ordered
-/// variables are words of these widths: the least significant bits come first at the start.
-pub fn guesser(
-    alloc: Global,
-    cnf: &Cnf,
-    widths: &[u32],
-    limit: Option<u64>,
-) -> Result<Option<Solver>, NoMemory> {
-    if limit.is_some() {
-        return Ok(None);
-    }
-    let first = by_bit(alloc, widths, cnf.variables)?;
-    Solver::of(alloc, cnf, &first)
-}
-
 /// What the solver guesses under these assumptions by at most this many conflicts more: at first without
 /// variables that are resolved away. The first `front` ones stay.
 pub fn guess_under(
@@ -72,44 +55,56 @@ pub fn guess_under(
     if solver.is_reduced() {
         return solver.solve(assumed, most);
     }
-    match solver.solve(assumed, FIRST_CONFLICTS)? {
+    let first = most.min(FIRST_CONFLICTS);
+    match solver.solve(assumed, first)? {
         Guessed::Spent => {
-            solver.eliminate(front)?;
-            solver.solve(assumed, most)
+            if first < most {
+                solver.eliminate(front)?;
+                solver.solve(assumed, most.wrapping_sub(first))
+            } else {
+                Ok(Guessed::Spent)
+            }
         }
         found => Ok(found),
     }
 }
 
-/// A model of the clauses or a refutation, guessed by at most this many conflicts more and then tried;
-/// `None` where the guess fails.
-fn guessed(
+/// What is guessed, if it holds.
+fn tried(
     alloc: Global,
     cnf: &Cnf,
-    solver: &mut Solver,
-    most: u64,
+    guess: Guess,
+    budget: Budget,
 ) -> Result<Option<Searched>, NoMemory>
     ensures { IfOk result (λ found. IfSome found (IsSearched cnf.now.variables cnf.now.clauses None)) }
 {
-    match guess_under(cnf.front, solver, &[], most)? {
-        Guessed::Model(values) => Ok(model_of(alloc, cnf, values)),
-        Guessed::None => refutation_of(alloc, cnf, solver.take_needed(cnf.clauses.len() as u64)?),
-        Guessed::Spent => Ok(None),
+    match guess {
+        Guess::Model(values) => Ok(model_of(cnf, values, budget)),
+        Guess::Refuted(log) => refutation_of(alloc, cnf, log),
+        Guess::Nothing => Ok(None),
     }
 }
 
-/// The same where there is no limit; nothing where there is one, or no solver.
-pub fn guessed_within(
+/// A model of the clauses or a refutation, guessed within the budget and then tried; `None` where the
+/// guess fails.
+pub fn guessed(
     alloc: Global,
     cnf: &Cnf,
-    solver: &mut Option<Solver>,
-    limit: Option<u64>,
-    most: u64,
+    widths: &[u32],
+    budget: &mut Budget,
 ) -> Result<Option<Searched>, NoMemory>
-    ensures { IfOk result (λ found. IfSome found (IsSearched cnf.now.variables cnf.now.clauses limit)) }
+    ensures { IfOk result (λ found. IfSome found (IsSearched cnf.now.variables cnf.now.clauses None)) }
 {
-    match (limit, solver) {
-        (None, Some(solver)) => guessed(alloc, cnf, solver, most),
-        _ => Ok(None),
+    let mut attempts = Attempts::new(alloc, widths);
+    'turns: for _ in 0..u64::MAX {
+        match attempts.guess(cnf, widths, budget)? {
+            Guess::Nothing => {}
+            guess => return tried(alloc, cnf, guess, *budget),
+        }
+        if budget.is_spent() {
+            break;
+        }
+        attempts.advance();
     }
+    Ok(None)
 }

@@ -1,53 +1,43 @@
 //! The least model, where a model is known.
 
-ghost use Rattle.std.specs.Prelude.{◌<◌, ◌≤◌, IfOk, IfSome, Some, None, length};
+ghost use Rattle.std.specs.Prelude.{IfOk};
 ghost use Rattle.clause_lits.specs.Meaning.{IsModel};
 ghost use Rattle.clause_search.specs.Outcome.{IsAnswer};
-ghost use Rattle.sat_restarts.specs.Searched.{AreLearned, AreWithinLimit};
 
 use crate::bits::least_by_bits;
-use crate::running::{Ended, run_in_order};
+use crate::budget::Budget;
 use clause_lits::{Assignment, Cnf};
-use clause_log::Log;
-use clause_search::Answer;
+use clause_search::{Answer, is_spent};
 use std::alloc::Global;
-use support::NoMemory;
+use support::{NoMemory, Sequence};
+use watch_solver::solve;
 
 /// The least model of clauses that have this model; or, under a limit, a log of as many steps as it
-/// allows, those that were learned before among them. Under a limit the clauses are searched in order;
-/// where there is none, the ordered variables are settled one by one.
+/// allows. The ordered variables are settled one by one, by guesses within the budget; where these fail,
+/// the clauses are searched in order.
 pub fn least(
     alloc: Global,
     cnf: &Cnf,
     widths: &[u32],
     values: Assignment,
-    learned: Log,
+    budget: Budget,
     limit: Option<u64>,
 ) -> Result<Answer, NoMemory>
     requires model { IsModel cnf.now.variables cnf.now.clauses values }
-    requires learned { AreLearned cnf.now.clauses learned }
-    requires within { AreWithinLimit limit learned }
     ensures { IfOk result (IsAnswer cnf.now.variables cnf.now.front cnf.now.clauses limit) }
 {
-    match limit {
-        Some(most) => least_within(alloc, cnf, learned, most),
-        None => Ok(Answer::Sat(least_by_bits(alloc, cnf, widths, values, learned)?)),
+    match least_by_bits(alloc, cnf, widths, values, budget)? {
+        Some(values) => Ok(Answer::Sat(values)),
+        None => in_order(alloc, cnf, limit),
     }
 }
 
-/// The least model by a search in order, if what is left of the limit suffices.
-fn least_within(alloc: Global, cnf: &Cnf, mut log: Log, most: u64) -> Result<Answer, NoMemory>
-    requires learned { AreLearned cnf.now.clauses log }
-    requires within { length log ≤ most }
-    ensures { IfOk result (IsAnswer cnf.now.variables cnf.now.front cnf.now.clauses (Some most)) }
+/// The answer of a search in order; without a step where the limit is 0.
+fn in_order(alloc: Global, cnf: &Cnf, limit: Option<u64>) -> Result<Answer, NoMemory>
+    ensures { IfOk result (IsAnswer cnf.now.variables cnf.now.front cnf.now.clauses limit) }
 {
-    let left = most - log.len() as u64;
-    if left == 0 {
-        return Ok(Answer::Spent(log));
+    if is_spent(limit, 0) {
+        return Ok(Answer::Spent(Sequence::from_vec(Vec::new(alloc))));
     }
-    match run_in_order(alloc, cnf, Some(left), &mut log)? {
-        Ended::Model(values) => Ok(Answer::Sat(values)),
-        Ended::Refuted => Ok(Answer::Unsat(log)),
-        Ended::Spent => Ok(Answer::Spent(log)),
-    }
+    solve(alloc, cnf, limit)
 }

@@ -43,8 +43,6 @@ mod pigeon_tests;
 #[cfg(test)]
 mod refine_tests;
 #[cfg(test)]
-mod renumber_tests;
-#[cfg(test)]
 mod restart_tests;
 #[cfg(test)]
 mod solver_tests;

@@ -1,12 +1,11 @@
 -- Nothing is settled at first, and all of the ordered bits at the end.
-use Rattle.sat_restarts.proofs.Common.{◌∙◌, ◌≡◌, ℕ, List, ap, arith, subst, sym, IsLess, Step, standing}
+use Rattle.sat_restarts.proofs.Common.{◌≡◌, ℕ, arith, subst, sym, IsLess}
 use Rattle.sat_restarts.proofs.Settling.{settled-none}
 use Rattle.sat_restarts.proofs.bits.least_by_bits.Goals as goal
 
 pub loop-bit-init : goal.loop-bit-init
 loop-bit-init c =
-    settled-none c.args.cnf.now c.in_ok-with_steps.field-0 c.args.values c.args.learned c.requires.learned c.in_ok-with_steps.ensures.variables
-    (c.in_ok-with_steps.ensures.clauses ∙ ap (λ (ss : List Step). standing c.args.cnf.now.clauses ss) c.as_slice.ensures) c.requires.model
+    settled-none c.args.cnf.now c.in_ok-duplicate.field-0 c.args.values c.in_ok-duplicate.ensures.variables c.in_ok-duplicate.ensures.clauses c.requires
 
 pub returns : goal.returns
 returns c =

@@ -1,0 +1,28 @@
+//! How many conflicts guesses may have.
+
+/// How many conflicts guesses may still have.
+#[derive(Clone, Copy, Debug, PartialEq, Eq)]
+pub struct Budget {
+    left: u64,
+}
+
+impl Budget {
+    /// As many conflicts as a limit allows; without a limit 2^64 - 1.
+    pub fn new(limit: Option<u64>) -> Budget {
+        Budget {
+            left: limit.unwrap_or(u64::MAX),
+        }
+    }
+
+    /// Takes this many conflicts out of the budget, or all that are left.
+    pub fn take(&mut self, most: u64) -> u64 {
+        let taken = most.min(self.left);
+        self.left = self.left.wrapping_sub(taken);
+        taken
+    }
+
+    /// Whether nothing is left.
+    pub fn is_spent(&self) -> bool {
+        self.left == 0
+    }
+}
