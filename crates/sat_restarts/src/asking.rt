@@ -1,7 +1,7 @@
 //! A solver that is asked for one bit after the other.
 
 use crate::budget::Budget;
-use crate::guessing::guess_under;
+use crate::guessing::{guess_under, sweep_once};
 use crate::orders::by_significance;
 use cdcl::{Guessed, Solver};
 use clause_lits::{Assignment, Clause, Cnf, Lit};
@@ -12,6 +12,9 @@ use support::{NoMemory, Sequence};
 
 /// How often the solver goes on with a bit, each time for twice as many conflicts as before, from 1 on.
 const MOST_TRIES: u32 = 15;
+
+/// The solver looks for equal gates before it goes on for this many conflicts.
+const SWEEP_LENGTH: u64 = 2048;
 
 /// A solver, and the literals of the bits that are settled.
 #[derive(Drop)]
@@ -86,6 +89,9 @@ impl Asking {
         for _ in 0..MOST_TRIES {
             if budget.is_spent() {
                 break;
+            }
+            if most == SWEEP_LENGTH && !budget.is_limited() {
+                sweep_once(self.front, solver)?;
             }
             let taken = budget.take(most);
             match guess_under(self.front, solver, self.assumed.as_slice(), taken)? {

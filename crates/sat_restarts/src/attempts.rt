@@ -2,10 +2,12 @@
 //!
 //! Clauses that are hard in one order are often easy in another. So a second solver has a turn where the
 //! first one had one, and each goes on where it stopped; then a search in order, which is quick where few
-//! clauses count something, as pigeons in holes. The next turns are longer. Nothing of a guess is promised.
+//! clauses count something, as pigeons in holes. The next turns are longer, and the first solver begins them
+//! anew with equal gates, which products and divisions have, unless conflicts are counted. Nothing of a
+//! guess is promised.
 
 use crate::budget::Budget;
-use crate::guessing::guess_under;
+use crate::guessing::{guess_under, sweep_once};
 use crate::orders::by_significance;
 use cdcl::{Guessed, Solver};
 use clause_lits::{Assignment, Cnf};
@@ -77,11 +79,15 @@ impl Attempts {
         widths: &[u32],
         budget: &mut Budget,
     ) -> Result<Guess, NoMemory> {
+        let sweeps = self.turn == 0 && self.length > FIRST_LENGTH && !budget.is_limited();
         let most = budget.take(self.length);
         self.begin(cnf, widths)?;
         let Some(solver) = self.solvers.get_mut(self.turn) else {
             return Ok(Guess::Nothing);
         };
+        if sweeps {
+            sweep_once(cnf.front, solver)?;
+        }
         Ok(match guess_under(cnf.front, solver, &[], most)? {
             Guessed::Model(values) => Guess::Model(values),
             Guessed::None => Guess::Refuted(solver.take_needed(cnf.clauses.len() as u64)?),

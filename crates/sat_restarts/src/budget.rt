@@ -1,5 +1,8 @@
 //! How many conflicts guesses may have.
 
+/// More conflicts than this are no limit.
+const MOST: u64 = 1 << 63;
+
 /// How many conflicts guesses may still have.
 #[derive(Clone, Copy, Debug, PartialEq, Eq)]
 pub struct Budget {
@@ -19,6 +22,11 @@ impl Budget {
         let taken = most.min(self.left);
         self.left = self.left.wrapping_sub(taken);
         taken
+    }
+
+    /// Whether conflicts are counted.
+    pub fn is_limited(&self) -> bool {
+        self.left < MOST
     }
 
     /// Whether nothing is left.

@@ -1,7 +1,7 @@
 //! What a search that only guesses finds, where it holds.
 //!
 //! The search goes on where it stopped. Variables are resolved away only once it had some conflicts,
-//! since that takes longer than most questions.
+//! and equal gates looked for once it had some thousands, since that takes longer than most questions.
 
 ghost use Rattle.std.specs.Prelude.{IfOk, IfSome, None};
 ghost use Rattle.sat_restarts.specs.Searched.{IsSearched};
@@ -19,6 +19,9 @@ use support::NoMemory;
 
 /// How many conflicts come before variables are resolved away.
 const FIRST_CONFLICTS: u64 = 50;
+
+/// How many conflicts the search for equal gates may take.
+const SWEEP_CONFLICTS: u64 = 24_000;
 
 /// A model, if the values are one, with what is left of the budget.
 fn model_of(cnf: &Cnf, values: Assignment, budget: Budget) -> Option<Searched>
@@ -67,6 +70,17 @@ pub fn guess_under(
         }
         found => Ok(found),
     }
+}
+
+/// Puts a solver that has learned nothing in the place of this one, which looks for equal gates, and resolves
+/// variables away after that; unless this one did. The first `front` variables stay.
+pub fn sweep_once(front: u64, solver: &mut Solver) -> Result<(), NoMemory> {
+    if solver.is_swept() {
+        return Ok(());
+    }
+    *solver = solver.renewed()?;
+    solver.sweep(front, SWEEP_CONFLICTS)?;
+    solver.eliminate(front)
 }
 
 /// What is guessed, if it holds.
