@@ -77,9 +77,9 @@ equal-is : (m n : ℕ) → nat_eq m n ≡ not (nat_lt m n || nat_lt n m)
 equal-is m n = elim (cases_lt m n) as (λ _. nat_eq m n ≡ not (nat_lt m n || nat_lt n m)) [
   | inl less ↦ rw (lt-ltb m n less) (ne_eqb m n (λ e. omega (arith, less, e)))
   | inr more ↦ elim (cases_lt n m) as (λ _. nat_eq m n ≡ not (nat_lt m n || nat_lt n m)) [
-      | inl less ↦ rw (le-ltb m n more) (rw (lt-ltb n m less) (ne_eqb m n (λ e. omega (arith, less, e))))
-      | inr least ↦ rw (le-ltb m n more) (rw (le-ltb n m least) (eq-eqb m n (omega (arith, more, least))))
-    ]
+    | inl less ↦ rw (le-ltb m n more) (rw (lt-ltb n m less) (ne_eqb m n (λ e. omega (arith, less, e))))
+    | inr least ↦ rw (le-ltb m n more) (rw (le-ltb n m least) (eq-eqb m n (omega (arith, more, least))))
+  ]
 ]
 
 at_most-is : (m n : ℕ) → nat_le m n ≡ not (nat_lt n m)
@@ -124,10 +124,10 @@ compare-stands old g1 g2 g3 g4 g5 g6 g7 predicate same_sign n left right a b unl
     let y = term_at v old right.number in
     let either : bit_at v g4 operands ≡ (p || q) = to.says v ∙ two (o3.first_poison v) (o3.second_poison v) in
     let holds : (p || q) ≡ false → bit_at v g6 test ≡ holds_of predicate n (x % 2 ^ n) (y % 2 ^ n) = λ e.
-        bit-later g5 g6 k6 v test it.within ∙ (tt v (either ∙ e)
-        ∙ (ap (λ k. holds_of predicate n k (term_at v g4 b.number)) (o4.first_number v) ∙ ap (holds_of predicate n (x % 2 ^ n)) (o4.second_number v))) in
+    bit-later g5 g6 k6 v test it.within ∙ (tt v (either ∙ e)
+    ∙ (ap (λ k. holds_of predicate n k (term_at v g4 b.number)) (o4.first_number v) ∙ ap (holds_of predicate n (x % 2 ^ n)) (o4.second_number v))) in
     let own : bit_at v g5 unlike ≡ are_unlike same_sign n (x % 2 ^ n) (y % 2 ^ n) =
-        bit-later g3 g5 (keeps_trans g3 g4 g5 k4 k5) v unlike tu.within ∙ (tu.says v ∙ (ap (λ k. are_unlike same_sign n k (term_at v g2 b.number)) (o2.first_number v) ∙ ap (are_unlike same_sign n (x % 2 ^ n)) (o2.second_number v))) in
+    bit-later g3 g5 (keeps_trans g3 g4 g5 k4 k5) v unlike tu.within ∙ (tu.says v ∙ (ap (λ k. are_unlike same_sign n k (term_at v g2 b.number)) (o2.first_number v) ∙ ap (are_unlike same_sign n (x % 2 ^ n)) (o2.second_number v))) in
     let any : bit_at v g6 poison ≡ ((p || q) || are_unlike same_sign n (x % 2 ^ n) (y % 2 ^ n)) = tp.says v ∙ two (bit-later g4 g5 k5 v operands to.within ∙ either) own in
     sv v ∙ (ap (λ t. value_from t (table.truth (bit_at v g6 test))) any ∙ compare_is predicate same_sign n p q (bit_at v g6 test) x y holds)
 
