@@ -1,5 +1,6 @@
 -- What is left of a text begins at a position.
 use Rattle.ir_lexer.proofs.Common.{◌≡◌, ℕ, ◌+◌, ◌-◌, ◌^◌, ◌<◌, ◌≤◌, List, [], ◌++◌, length, take, drop, refl, sym, ap, ◌∙◌, append_assoc, arith, length-append, take-append-drop, take_at, drop_at, Place, place_behind, place_at, line-within, column-within, Here}
+use Rattle.std.proofs.lemmas.List.{drop-drop}
 
 pub at_start : (text : List ℕ) (place : Place) → place ≡ place_behind [] → Here text text place
 at_start text place is = record { before = []; split = refl; is = is }
@@ -38,3 +39,9 @@ here-drop text rest place here =
     let lens : length text ≡ length here.before + length rest = ap length here.split ∙ length-append here.before rest in
     let len : length here.before ≡ length text - length rest = omega (arith, lens) in
     ap (drop (length text - length rest)) here.split ∙ drop_at here.before rest (length text - length rest) len
+
+-- what is left from an offset on
+pub jumped : (text rest : List ℕ) (place : Place) (at : ℕ) → length text - length rest ≤ at → Here text rest place → drop (at - (length text - length rest)) rest ≡ drop at text
+jumped text rest place at ahead here =
+    let n : (length text - length rest) + (at - (length text - length rest)) ≡ at = omega (arith, ahead) in
+    ap (drop (at - (length text - length rest))) (sym (here-drop text rest place here)) ∙ drop-drop (at - (length text - length rest)) (length text - length rest) text ∙ ap (λ (k : ℕ). drop k text) n

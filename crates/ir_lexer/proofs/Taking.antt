@@ -14,7 +14,7 @@ are count (Err spot) h = absurd h
 pub enough : (count n : ℕ) (left : Result (List Lexeme) Spot) (tokens : List Lexeme) → IsOkAnd left (λ tokens. count ≤ length tokens) → left ≡ Ok tokens → n < count → n < length tokens
 enough count n left tokens h is less = omega (arith, less, subst (λ (r : Result (List Lexeme) Spot). IsOkAnd r (λ tokens. count ≤ length tokens)) is h)
 
-front-ok : (t : Lexeme) (tokens : List Lexeme) (new : Result (List Lexeme) Spot) → Ok tokens ≡ with_front (t ∷ []) new → (rest : List Lexeme) × (new ≡ Ok rest) × (tokens ≡ t ∷ rest)
+pub front-ok : (t : Lexeme) (tokens : List Lexeme) (new : Result (List Lexeme) Spot) → Ok tokens ≡ with_front (t ∷ []) new → (rest : List Lexeme) × (new ≡ Ok rest) × (tokens ≡ t ∷ rest)
 front-ok t tokens (Ok rest) h = (rest, refl, cc h)
 front-ok t tokens (Err spot) h = absurd (cc h)
 

@@ -21,6 +21,10 @@ start_of text = record { text = text; rest = behind_blanks false text }
 abbrev pub bytes_before : Position → ℕ
 bytes_before p = length p.text - length p.rest
 
+-- the position of an offset
+abbrev pub behind : Position → ℕ → Position
+behind p at = record { text = p.text; rest = drop at p.text }
+
 -- what is left is the end of the text
 abbrev pub IsWithin : Position → Type 0
 IsWithin p = drop (bytes_before p) p.text ≡ p.rest

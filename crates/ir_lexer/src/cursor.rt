@@ -1,5 +1,5 @@
-ghost use Rattle.std.specs.Prelude.{◌≡◌, ◌<◌, ℕ};
-ghost use Rattle.ir_lexer.specs.Position.{start_of, IsWithin, Reads};
+ghost use Rattle.std.specs.Prelude.{◌≡◌, ◌<◌, ◌≤◌, ℕ, length};
+ghost use Rattle.ir_lexer.specs.Position.{start_of, bytes_before, behind, IsWithin, Reads};
 ghost use Rattle.ir_lexer.specs.Scan.{name_run};
 
 use crate::blanks::blanks_len;
@@ -77,5 +77,33 @@ impl<'a> Cursor<'a> {
         self.run = run.saturating_sub(len);
         self.rest = rest;
         Ok(Some(token))
+    }
+
+    /// A cursor at the same position.
+    pub fn again(&self) -> Cursor<'a>
+        ensures { result ≡ self.now }
+    {
+        Cursor {
+            text: self.text,
+            rest: self.rest,
+            place: self.place,
+            run: self.run,
+        }
+    }
+
+    /// Moves on to an offset of the text. Where it is past that, or the text ends before, it does not
+    /// move.
+    pub fn jump(&mut self, at: usize)
+        ensures jumps { bytes_before self.old ≤ at → at ≤ length self.old.text → self.new ≡ behind self.old at }
+        ensures within { IsWithin self.old }
+    {
+        let done = self.text.len() - self.rest.len();
+        if at < done || self.text.len() < at {
+            return;
+        }
+        let (front, rest) = self.rest.split_at(at - done);
+        self.place = self.place.behind(front);
+        self.run = 0;
+        self.rest = rest;
     }
 }

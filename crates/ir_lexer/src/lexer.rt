@@ -1,4 +1,4 @@
-ghost use Rattle.std.specs.Prelude.{◌≡◌, ◌≤◌, List, length, take, drop, Ok, IfOk, OnOk, IsOkAnd};
+ghost use Rattle.std.specs.Prelude.{◌≡◌, ◌≤◌, List, length, take, drop, Ok, IfOk, OnOk, IsOkAnd, IsSomeAnd, slice_get};
 ghost use Rattle.ir_lexer.specs.Lexeme.{Lexeme};
 ghost use Rattle.ir_lexer.specs.Tokens.{lexed};
 ghost use Rattle.ir_lexer.specs.Answer.{IsNext};
@@ -76,5 +76,23 @@ impl<'a> Lexer<'a> {
         for _ in 0..count {
             let _ = self.next();
         }
+    }
+
+    /// A lexer with the same tokens left.
+    pub fn again(&self) -> Lexer<'a>
+        ensures { result ≡ self.now }
+    {
+        Lexer {
+            cursor: self.cursor.again(),
+        }
+    }
+
+    /// Skips the next `count` tokens, where the next one begins at offset `at` of the text. That one
+    /// must be left. It reads none of them.
+    pub fn jump(&mut self, count: usize, at: usize)
+        requires { IsOkAnd self.old (λ tokens. IsSomeAnd (slice_get tokens count) (λ t. t.at ≡ at)) }
+        ensures { (tokens : List Lexeme) → self.old ≡ Ok tokens → self.new ≡ Ok (drop count tokens) }
+    {
+        self.cursor.jump(at);
     }
 }

@@ -71,4 +71,12 @@ impl<'a> Tokens<'a> {
     {
         self.marks[place].line as u64
     }
+
+    /// Where the token at an index begins, counted from 0: the number of bytes of the text before it.
+    pub fn at(&self, place: usize) -> usize
+        requires { place < length self.now }
+        ensures { IsSomeAnd (slice_get self.now place) (λ t. result ≡ t.at) }
+    {
+        self.marks[place].at as usize
+    }
 }

@@ -62,7 +62,7 @@ pub record IsAhead (tokens : List Lexeme) (done : ℕ) (d : Define) : Type 0 whe
   pub within : d.last + 1 ≤ length tokens
   pub left : d.last + 1 ≤ done + length (drop done tokens)
 
-drop-long : (done : ℕ) (ts : List Lexeme) → length ts ≤ done + length (drop done ts)
+pub drop-long : (done : ℕ) (ts : List Lexeme) → length ts ≤ done + length (drop done ts)
 drop-long zero ts = omega arith
 drop-long (suc n) [] = omega arith
 drop-long (suc n) (t ∷ ts) = let r = drop-long n ts in omega (arith, r)

@@ -10,3 +10,4 @@ pub mod Answers
 pub mod OneFunction
 pub mod Entries
 pub mod Different
+pub mod Starts

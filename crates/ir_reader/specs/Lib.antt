@@ -4,3 +4,4 @@ pub mod Module
 pub mod Judgeable
 pub mod Laws
 pub mod Answer
+pub mod Beside

@@ -10,11 +10,13 @@
 //! required of a function besides its grammar, and `ir_tree` for what it makes; the command uses it.
 #![tactic(auto)]
 
+mod beside;
 mod fault;
 mod functions;
 mod laws;
 mod reading;
 
+pub use beside::read_beside;
 pub use fault::ModuleFault;
 pub use laws::{is_one_function, is_one_module};
 pub use reading::read;

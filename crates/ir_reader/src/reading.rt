@@ -39,7 +39,8 @@ pub fn read(alloc: Global, text: &[u8]) -> Result<Module, ModuleFault>
     Ok(Module { entries })
 }
 
-fn tokens<'a>(alloc: Global, text: &'a [u8]) -> Result<Tokens<'a>, ModuleFault>
+/// The tokens of a text.
+pub fn tokens<'a>(alloc: Global, text: &'a [u8]) -> Result<Tokens<'a>, ModuleFault>
     ensures tokens { IfOk result (λ tokens. lexed text.now ≡ Ok tokens) }
     ensures fault { IfErr result (IsFault text.now) }
 {
@@ -80,10 +81,24 @@ fn defines(alloc: Global, text: &[u8]) -> Result<Sequence<Define>, ModuleFault>
     ensures fault { IfErr result (IsFault text.now) }
 {
     let tokens = tokens(alloc, text)?;
-    match cut(alloc, &tokens) {
+    defines_of(alloc, text, &tokens)
+}
+
+/// The defines among the tokens of a text.
+pub fn defines_of(
+    alloc: Global,
+    text: &[u8],
+    tokens: &Tokens<'_>,
+) -> Result<Sequence<Define>, ModuleFault>
+    requires { lexed text.now ≡ Ok tokens.now }
+    ensures defines { IfOk result (AreDefines text.now tokens.now) }
+    ensures fault { IfErr result (IsFault text.now) }
+{
+    let count = tokens.len();
+    match cut(alloc, tokens) {
         Ok(defines) => Ok(defines),
         Err(ItemFault::Stop { at, why }) => {
-            let place = place_or_end(text, at.min(tokens.len()));
+            let place = place_or_end(text, at.min(count));
             Err(ModuleFault::Item { why, place })
         }
         Err(ItemFault::NoMemory) => Err(ModuleFault::NoMemory),
@@ -101,8 +116,8 @@ fn answer(alloc: Global, tokens: &[Token]) -> Result<Result<Function, Refused>, 
     }
 }
 
-// The entry of a define. The lexer has passed `done` tokens, and afterwards those of the define too.
-fn entry(
+/// The entry of a define. The lexer has passed `done` tokens, and afterwards those of the define too.
+pub fn entry(
     alloc: Global,
     lexer: &mut Lexer<'_>,
     done: usize,

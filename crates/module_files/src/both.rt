@@ -6,9 +6,10 @@ ghost use Rattle.module_files.specs.Stops.{StopsAt};
 ghost use Rattle.module_files.specs.Reading.{AreParsed, AreRead, CountsStop, IsUnread};
 
 use crate::stop::{LoadFault, Stop};
-use crate::texts::{load, module_from};
+use crate::texts::{load, module_beside, module_from};
 use ir_tree::Module;
 use std::alloc::Global;
+use std::thread::Threads;
 use tv_io::Shelf;
 
 /// The modules of a source and a target.
@@ -49,5 +50,44 @@ fn modules_of(alloc: Global, source: Vec<u8>, target: Vec<u8>) -> Result<Modules
 {
     let source = module_from(alloc, source).map_err(LoadFault::at_source)?;
     let target = module_from(alloc, target).map_err(LoadFault::at_target)?;
+    Ok(Modules { source, target })
+}
+
+/// The same as [`read_both`], the functions of each module read by this many workers beside each other.
+///
+/// # Errors
+/// As [`read_both`].
+pub fn read_both_beside<S: Shelf, R: Threads + Sync>(
+    rt: &R,
+    alloc: Global,
+    shelf: &mut S,
+    source: &str,
+    target: &str,
+    workers: u64,
+) -> Result<Modules, Stop>
+    ensures modules { IfOk result (AreRead (S.state shelf.old).files source.now target.now) }
+    ensures cause { IfErr result (StopsAt (S.state shelf.old) (S.state shelf.new) source.now target.now) }
+    ensures quiet { OnOk result ((S.state shelf.new).fetch_faults ≡ (S.state shelf.old).fetch_faults) }
+    ensures counted { IfErr result (λ stop. CountsStop stop (S.state shelf.old) (S.state shelf.new)) }
+    ensures put_faults { (S.state shelf.new).put_faults ≡ (S.state shelf.old).put_faults }
+    ensures same { (S.state shelf.new).files ≡ (S.state shelf.old).files }
+{
+    let source = load(alloc, shelf, source).map_err(LoadFault::at_source)?;
+    let target = load(alloc, shelf, target).map_err(LoadFault::at_target)?;
+    modules_beside(rt, alloc, source, target, workers)
+}
+
+fn modules_beside<R: Threads + Sync>(
+    rt: &R,
+    alloc: Global,
+    source: Vec<u8>,
+    target: Vec<u8>,
+    workers: u64,
+) -> Result<Modules, Stop>
+    ensures parsed { IfOk result (AreParsed source.items target.items) }
+    ensures unread { IfErr result (IsUnread source.items target.items) }
+{
+    let source = module_beside(rt, alloc, source, workers).map_err(LoadFault::at_source)?;
+    let target = module_beside(rt, alloc, target, workers).map_err(LoadFault::at_target)?;
     Ok(Modules { source, target })
 }

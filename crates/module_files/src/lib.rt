@@ -13,7 +13,7 @@ mod refusals;
 mod stop;
 mod texts;
 
-pub use both::{Modules, read_both};
+pub use both::{Modules, read_both, read_both_beside};
 pub use refusals::{refuse, refuse_file};
 pub use stop::{LoadFault, Stop, Trouble};
 pub use texts::{load, module_of};

@@ -1,11 +1,13 @@
-ghost use Rattle.std.specs.Prelude.{◌≡◌, ◌≤◌};
+ghost use Rattle.std.specs.Prelude.{◌≡◌, ◌≤◌, ℕ, List, Err};
+ghost use Rattle.ir_reader.specs.Module.{IsFault};
 ghost use Rattle.tv_io.specs.State.{ShelfState};
 ghost use Rattle.module_files.specs.Reading.{Loads, CountsLoad, Parses};
 
 use crate::stop::{LoadFault, Trouble};
-use ir_reader::{ModuleFault, read};
+use ir_reader::{ModuleFault, read, read_beside};
 use ir_tree::Module;
 use std::alloc::Global;
+use std::thread::Threads;
 use tv_io::{FetchFault, Shelf, Size};
 
 /// The most bytes of a file.
@@ -30,17 +32,24 @@ pub fn load<S: Shelf>(alloc: Global, shelf: &mut S, name: &str) -> Result<Vec<u8
     }
 }
 
+// The same fault as one of loading.
+fn load_fault(fault: ModuleFault) -> LoadFault
+    ensures { (text : List ℕ) → IsFault text fault → Parses text (Err result) }
+{
+    match fault {
+        ModuleFault::NoToken(place) => LoadFault::Trouble(Trouble::NoToken(place)),
+        ModuleFault::Item { why, place } => LoadFault::Trouble(Trouble::Item { why, place }),
+        ModuleFault::NoMemory => LoadFault::NoMemory,
+    }
+}
+
 /// The module of a text, or its fault.
 pub fn module_of(alloc: Global, text: &[u8]) -> Result<Module, LoadFault>
     ensures { Parses text.now result }
 {
     match read(alloc, text) {
         Ok(module) => Ok(module),
-        Err(ModuleFault::NoToken(place)) => Err(LoadFault::Trouble(Trouble::NoToken(place))),
-        Err(ModuleFault::Item { why, place }) => {
-            Err(LoadFault::Trouble(Trouble::Item { why, place }))
-        }
-        Err(ModuleFault::NoMemory) => Err(LoadFault::NoMemory),
+        Err(fault) => Err(load_fault(fault)),
     }
 }
 
@@ -49,4 +58,19 @@ pub fn module_from(alloc: Global, text: Vec<u8>) -> Result<Module, LoadFault>
     ensures { Parses text.items result }
 {
     module_of(alloc, text.as_slice())
+}
+
+/// The same, read by this many workers beside each other.
+pub fn module_beside<R: Threads + Sync>(
+    rt: &R,
+    alloc: Global,
+    text: Vec<u8>,
+    workers: u64,
+) -> Result<Module, LoadFault>
+    ensures { Parses text.items result }
+{
+    match read_beside(rt, alloc, text.as_slice(), workers) {
+        Ok(module) => Ok(module),
+        Err(fault) => Err(load_fault(fault)),
+    }
 }

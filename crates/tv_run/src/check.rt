@@ -12,7 +12,7 @@ ghost use Rattle.tv_run.specs.Stops.{HasCause};
 ghost use Rattle.tv_run.specs.Answers.{CountsStop, HasReport, IsProofAsked, IsReportOf, IsJudgeableModule};
 
 use ir_tree::Module;
-use module_files::{Stop, read_both};
+use module_files::{Stop, read_both_beside};
 use module_rows::{Judgements, all_rows};
 use pair_driver::{Gate, Judged};
 use pair_judge::Real;
@@ -52,7 +52,14 @@ pub fn report_of<S: Shelf, G: Gate, R: Threads + Sync>(
     ensures put_faults { (S.state shelf.new).put_faults ≡ (S.state shelf.old).put_faults }
     ensures same { (S.state shelf.new).files ≡ (S.state shelf.old).files }
 {
-    let both = read_both(alloc, shelf, check.source, check.target)?;
+    let both = read_both_beside(
+        rt,
+        alloc,
+        shelf,
+        check.source,
+        check.target,
+        check.workers,
+    )?;
     let report = report_of_modules(rt, alloc, check, gate, &both.source, &both.target)?;
     Ok(report)
 }
