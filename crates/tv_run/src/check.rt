@@ -52,14 +52,7 @@ pub fn report_of<S: Shelf, G: Gate, R: Threads + Sync>(
     ensures put_faults { (S.state shelf.new).put_faults ≡ (S.state shelf.old).put_faults }
     ensures same { (S.state shelf.new).files ≡ (S.state shelf.old).files }
 {
-    let both = read_both_beside(
-        rt,
-        alloc,
-        shelf,
-        check.source,
-        check.target,
-        check.workers,
-    )?;
+    let both = read_both_beside(rt, alloc, shelf, check.source, check.target, check.workers)?;
     let report = report_of_modules(rt, alloc, check, gate, &both.source, &both.target)?;
     Ok(report)
 }
