@@ -2,6 +2,7 @@ pub mod Common
 pub mod StopReasons
 pub mod TypesTold
 pub mod Looking
+pub mod Undefs
 pub mod Objects
 pub mod Spelled
 pub mod Placed

@@ -1,5 +1,5 @@
--- What is spelled keeps the limits of a function.
-use Rattle.ir_reader.proofs.Common.{◌≡◌, ℕ, zero, suc, ◌+◌, ◌-◌, ◌<◌, ◌≤◌, Bool, true, false, ltb, cond, List, [], ◌∷◌, ◌++◌, length, Option, Some, None, sym, subst, ap, ◌∙◌, refl, inl, inr, arith, ◌&&◌, ◌||◌, not, Result, Ok, bytes_eq, All, AllByRecursion, sum_by, ltb-true, length-append, All-nil, All-cons, Lexeme, Kind, Define, instructions_of, cases_in, HasFewCases, HasFewEntries, with_name, number_of, Entry, Refused, Name, Phi, Block, Function, SpellParts, Spells, part_value, part_begins, LineStart, LineWord, TerminatorWord, ParameterPart, WrittenParameters, WrittenName, WrittenPhi, WrittenInst, WrittenLine, WrittenLines, WrittenCase, WrittenBody, WrittenFunction, any, named_at, label_line, is_record, line_start, inst_line, phi, alloca, load, store, gep, default_align, line_by, line_named, entry_or_attachment, next_entry, attached, align_or_attachment, aligned, index_or_attachment, next_index, follows_parameter, parameter_begins, with_part, parameter_parts, first_parameter, parameters, is_comma, is_local_kind, starts_line, line_begins, line_within, next_number, started, line_comma, with_comma, whole_line, with_phi, with_inst, with_line, next_line, lines, is_type, case_begins, case_within, with_case, cases, branch, branch_to, cond_branch, switch, return_of, terminator_by, block, body_of, entry_block, begins_block, block_begins, next_block, blocks, define, Numbered, so, each_in, parameter_in, inst_in, value_in, typed_in, entry_in, phi_in, case_in, branch_in, cond_branch_in, switch_in, terminator_in, block_in, labelled_in, blocks_in, parts_in, returned_in, function_of, named_behind, entry_name, numbered, IsFunction, well_formed, tested, unfit, past, without_places, AreEntries, tokens_of, IsWellFormed, then-so, named-count, block_with}
+-- What is spelled keeps the limits of a function, and is what can be judged.
+use Rattle.ir_reader.proofs.Common.{◌≡◌, ℕ, zero, suc, ◌+◌, ◌-◌, ◌<◌, ◌≤◌, Bool, true, false, ltb, cond, List, [], ◌∷◌, ◌++◌, length, Option, Some, None, sym, subst, ap, ◌∙◌, refl, inl, inr, arith, ◌&&◌, ◌||◌, not, Result, Ok, bytes_eq, All, AllByRecursion, sum_by, ltb-true, length-append, All-nil, All-cons, Lexeme, Kind, Define, instructions_of, cases_in, HasFewCases, HasFewEntries, with_name, number_of, Entry, Refused, Name, Phi, Block, Function, SpellParts, Spells, part_value, part_begins, LineStart, LineWord, TerminatorWord, ParameterPart, WrittenParameters, WrittenName, WrittenPhi, WrittenInst, WrittenLine, WrittenLines, WrittenCase, WrittenBody, WrittenFunction, any, named_at, label_line, is_record, line_start, inst_line, phi, alloca, load, store, gep, default_align, line_by, line_named, entry_or_attachment, next_entry, attached, align_or_attachment, aligned, index_or_attachment, next_index, follows_parameter, parameter_begins, with_part, parameter_parts, first_parameter, parameters, is_comma, is_local_kind, starts_line, line_begins, line_within, next_number, started, line_comma, with_comma, whole_line, with_phi, with_inst, with_line, next_line, lines, is_type, case_begins, case_within, with_case, cases, branch, branch_to, cond_branch, switch, return_of, terminator_by, block, body_of, entry_block, begins_block, block_begins, next_block, blocks, define, Numbered, so, each_in, parameter_in, inst_in, value_in, typed_in, entry_in, phi_in, case_in, branch_in, cond_branch_in, switch_in, terminator_in, block_in, labelled_in, blocks_in, parts_in, returned_in, function_of, named_behind, entry_name, numbered, IsFunction, well_formed, tested, unfit, past, without_places, AreEntries, tokens_of, IsWellFormed, then-so, named-count, block_with, whole, steps, AreNumbered}
 use Rattle.std.specs.Prelude.{codes}
 use Rattle.std.proofs.lemmas.List.Sums.{sum_by-cons, sum_by_push}
 use Rattle.ir_lexer.specs.declared.token.Kind.TheVariants as kind
@@ -23,8 +23,8 @@ use Rattle.ir_numbering.specs.declared.numbering.NamedParameter.{NamedParameter}
 use Rattle.ir_words.specs.Words.{is_word_of}
 use Rattle.ir_reader.specs.Judgeable.{IsJudgeable, IsJudgeableEntry}
 use Rattle.ir_reader.proofs.Placed.{well_formed-placed}
-use Rattle.ir_reader.proofs.Objects.{IsSmallAccess, IsSmallGep, IsSmallInst, IsSmallBlock, block-small, blocks-small}
-use Rattle.ir_reader.proofs.Spelled.{memory-aligned, alignment-kept, default-aligned, alloca-small, gep-small, plain-small}
+use Rattle.ir_reader.proofs.Objects.{IsSmallAccess, IsSmallGep, IsReadInst, IsJudgeableBlock, block-judgeable, blocks-small}
+use Rattle.ir_reader.proofs.Spelled.{memory-aligned, alignment-kept, default-aligned, alloca-small, gep-small, plain-known}
 
 and-first : (a b : Bool) → (a && b) ≡ true → a ≡ true
 and-first true b e = refl
@@ -60,7 +60,7 @@ all-push P (y ∷ ys) x (first, others) h = (first, all-push P ys x others h)
 abbrev FewEntries : WrittenPhi → Type 0
 FewEntries phi = length phi.entries ≤ 16777216
 
--- a line that begins as an instruction is one, with few entries and small objects
+-- a line that begins as an instruction is one, with few entries, and what is known of the others
 abbrev IsInstLine : WrittenLine → Type 0
 IsInstLine (line.Label name) = ⊥
 IsInstLine line.Record = ⊥
@@ -68,7 +68,7 @@ IsInstLine (line.Entries phi) = FewEntries phi
 IsInstLine (line.Access a) = IsSmallAccess a
 IsInstLine (line.Indices g) = IsSmallGep g
 IsInstLine (line.Phi phi) = FewEntries phi
-IsInstLine (line.Inst i) = IsSmallInst i
+IsInstLine (line.Inst i) = IsReadInst i
 
 -- what a line is that begins so
 abbrev IsLineOf : LineStart → WrittenLine → Type 0
@@ -91,7 +91,7 @@ named-of number name word_of.Phi l ts rest below (type, m1, t1, (opening, m2, t2
 named-of number name word_of.Alloca l ts rest below (object, m1, O, (same, left)) = let small = alloca-small object ts m1 O in subst (λ (x : WrittenLine). IsInstLine x) same (below, small.0, small.1, small.2)
 named-of number name word_of.Load l ts rest below (type, m1, T, (comma, m2, t2, (from, m3, P, (same, left)))) = subst (λ (x : WrittenLine). IsInstLine x) same (memory-aligned T.first type T.stands_for)
 named-of number name word_of.GetElementPtr l ts rest below (object, m1, O, (comma, m2, t2, (base, m3, P, (same, left)))) = subst (λ (x : WrittenLine). IsInstLine x) same (gep-small object ts m1 O)
-named-of number name (word_of.Inst o) l ts rest below (i, mid, I, (same, left)) = subst (λ (x : WrittenLine). IsInstLine x) same (plain-small name o i ts mid I)
+named-of number name (word_of.Inst o) l ts rest below (i, mid, I, (same, left)) = subst (λ (x : WrittenLine). IsInstLine x) same (plain-known name o i ts mid I)
 
 started-of : (phi_too : Bool) (number : ℕ) (a : LineStart) (l : WrittenLine) (ts rest : List Lexeme) → (IsInstStart a → number < 65536) → Spells true (started phi_too number a) l ts rest → IsLineOf a l
 unfolding line_named store
@@ -176,13 +176,13 @@ room-of s a t e w h = go t.kind (starts_line t) e w
 record LinesFew (room : ℕ) (s : WrittenLines) : Type 0 where
   counted : length s.phis + (length s.insts + s.room) ≤ room
   entries : AllByRecursion FewEntries s.phis
-  small : AllByRecursion IsSmallInst s.insts
+  insts : AllByRecursion IsReadInst s.insts
 
 phi-few-lines : (room : ℕ) (s : WrittenLines) (phi : WrittenPhi) → FewEntries phi → 0 < s.room → LinesFew room s → LinesFew room (with_phi s phi)
-phi-few-lines room s phi h some F = record { counted = omega (arith, some, F.counted, length-append s.phis (phi ∷ [])); entries = all-push FewEntries s.phis phi F.entries h; small = F.small }
+phi-few-lines room s phi h some F = record { counted = omega (arith, some, F.counted, length-append s.phis (phi ∷ [])); entries = all-push FewEntries s.phis phi F.entries h; insts = F.insts }
 
-inst-few-lines : (room : ℕ) (s : WrittenLines) (i : WrittenInst) → IsSmallInst i → 0 < s.room → LinesFew room s → LinesFew room (with_inst s i)
-inst-few-lines room s i h some F = record { counted = omega (arith, some, F.counted, length-append s.insts (i ∷ [])); entries = F.entries; small = all-push IsSmallInst s.insts i F.small h }
+inst-few-lines : (room : ℕ) (s : WrittenLines) (i : WrittenInst) → IsReadInst i → 0 < s.room → LinesFew room s → LinesFew room (with_inst s i)
+inst-few-lines room s i h some F = record { counted = omega (arith, some, F.counted, length-append s.insts (i ∷ [])); entries = F.entries; insts = all-push IsReadInst s.insts i F.insts h }
 
 next-inst : (room : ℕ) (s : WrittenLines) (l : WrittenLine) → IsInstLine l → 0 < s.room → LinesFew room s → LinesFew room (with_line s l)
 next-inst room s (line.Label name) h some F = absurd h
@@ -196,8 +196,8 @@ next-inst room s (line.Inst i) h some F = inst-few-lines room s i h some F
 next-few : (room : ℕ) (s : WrittenLines) (a : LineStart) (l : WrittenLine) → IsLineOf a l → (IsInstStart a → 0 < s.room) → LinesFew room s → LinesFew room (with_line s l)
 next-few room s (start.Inst name) l h some F = next-inst room s l h (some tt) F
 next-few room s start.Store l h some F = next-inst room s l h (some tt) F
-next-few room s (start.Label name) (line.Label other) h some F = record { counted = F.counted; entries = F.entries; small = F.small }
-next-few room s start.Record line.Record h some F = record { counted = F.counted; entries = F.entries; small = F.small }
+next-few room s (start.Label name) (line.Label other) h some F = record { counted = F.counted; entries = F.entries; insts = F.insts }
+next-few room s start.Record line.Record h some F = record { counted = F.counted; entries = F.entries; insts = F.insts }
 next-few room s (start.Label name) line.Record h some F = absurd h
 next-few room s (start.Label name) (line.Entries phi) h some F = absurd h
 next-few room s (start.Label name) (line.Access a) h some F = absurd h
@@ -220,7 +220,7 @@ lines-few room (suc n) s x ts rest (a, inside, next, behind, T, (l, L, same), mo
 
 block-lines-few : (is_new : Bool) (room : ℕ) (x : WrittenLines) (ts rest : List Lexeme) → Spells true (lines is_new room) x ts rest → LinesFew room x
 unfolding lines
-block-lines-few is_new room x ts rest (s, mid, (same, left), n, P) = lines-few room n s x mid rest P (subst (λ (y : WrittenLines). LinesFew room y) same (record { counted = omega arith; entries = tt; small = tt }))
+block-lines-few is_new room x ts rest (s, mid, (same, left), n, P) = lines-few room n s x mid rest P (subst (λ (y : WrittenLines). LinesFew room y) same (record { counted = omega arith; entries = tt; insts = tt }))
 
 abbrev written_cases : WrittenTerminator → ℕ
 written_cases (end.Return returned) = 0
@@ -255,7 +255,7 @@ count_of b = length b.phis + (length b.insts + 1)
 
 record FewBody (b : WrittenBody) : Type 0 where
   entries : AllByRecursion FewEntries b.phis
-  small : AllByRecursion IsSmallInst b.insts
+  insts : AllByRecursion IsReadInst b.insts
   cases : written_cases b.terminator ≤ 256
 
 record BlockFew (room : ℕ) (b : WrittenLines × WrittenTerminator) : Type 0 where
@@ -268,7 +268,7 @@ block-few is_new room b ts rest (all, mid, (m2, L, T), (last, m3, E, (passed, A,
     let F = block-lines-few is_new room all.0 ts m2 L in
     let some : 0 < all.0.room = ltb-true 0 all.0.room T.keeps in
     let few : written_cases last ≤ 256 = terminator-few all.1 last mid m3 E in
-    subst (λ (y : WrittenLines × WrittenTerminator). BlockFew room y) same (record { counted = omega (arith, some, F.counted); few = record { entries = F.entries; small = F.small; cases = few } })
+    subst (λ (y : WrittenLines × WrittenTerminator). BlockFew room y) same (record { counted = omega (arith, some, F.counted); few = record { entries = F.entries; insts = F.insts; cases = few } })
 
 abbrev block_count : WrittenBlock → ℕ
 block_count b = count_of b.body
@@ -362,7 +362,7 @@ record IsMade (w : WrittenBody) (x : Block) : Type 0 where
   counted : instructions_of x ≡ count_of w
   cases : HasFewCases x
   entries : HasFewEntries x
-  small : IsSmallBlock x
+  insts : IsJudgeableBlock x
 
 block-made : (names : List Name) (label : Name) (w : WrittenBody) (x : Block) (after : List Name) → block_in names label w ≡ so x after → FewBody w → IsMade w x
 unfolding block_in
@@ -379,24 +379,24 @@ block-made names label w x after e few =
       counted = omega (arith, phis, insts);
       cases = omega (arith, cases, few.cases);
       entries = phis-few w.phis before P.value P.mid P.first few.entries;
-      small = subst IsSmallBlock (sym is) (block-small names label w x after e few.small);
+      insts = subst IsJudgeableBlock (sym is) (block-judgeable names label w x after e few.insts);
     })
 
 record AreMade (counted : ℕ) (bs : List Block) : Type 0 where
   count : sum_by instructions_of bs ≡ counted
   cases : All HasFewCases bs
   entries : All HasFewEntries bs
-  small : All IsSmallBlock bs
+  insts : All IsJudgeableBlock bs
 
 none-made : AreMade 0 []
-none-made = record { count = refl; cases = All-nil HasFewCases; entries = All-nil HasFewEntries; small = All-nil IsSmallBlock }
+none-made = record { count = refl; cases = All-nil HasFewCases; entries = All-nil HasFewEntries; insts = All-nil IsJudgeableBlock }
 
 more-made : (w : WrittenBody) (x : Block) (counted : ℕ) (bs : List Block) → IsMade w x → AreMade counted bs → AreMade (count_of w + counted) (x ∷ bs)
 more-made w x counted bs M Ms = record {
   count = omega (arith, sum_by-cons instructions_of x bs, M.counted, Ms.count);
   cases = All-cons HasFewCases x bs M.cases Ms.cases;
   entries = All-cons HasFewEntries x bs M.entries Ms.entries;
-  small = All-cons IsSmallBlock x bs M.small Ms.small;
+  insts = All-cons IsJudgeableBlock x bs M.insts Ms.insts;
 }
 
 others-made : (items : List WrittenBlock) (names : List Name) (bs : List Block) (after : List Name) → each_in labelled_in names items ≡ so bs after → AllByRecursion FewBlock items → AreMade (sum_by block_count items) bs
@@ -419,7 +419,7 @@ blocks-made names label entry others bs after e first few =
 
 judgeable : (w : WrittenFunction) → AreFew w → IsWellFormed (numbered w) → IsJudgeable (numbered w)
 unfolding numbered parts_in
-judgeable w few formed = go (parts_in named_ones label w.entry w.others) refl formed
+judgeable w few formed = go (parts_in named_ones label w.entry w.others) refl formed (whole w).numbered
   where
     named_ones : List NamedParameter
     named_ones = named_behind [] w.parameters
@@ -427,8 +427,8 @@ judgeable w few formed = go (parts_in named_ones label w.entry w.others) refl fo
     label : Name
     label = entry_name w
 
-    go : (m : Numbered (List Parameter × List Block)) → parts_in named_ones label w.entry w.others ≡ m → IsWellFormed (function_of w m) → IsJudgeable (function_of w m)
-    go (so parts names) e formed =
+    go : (m : Numbered (List Parameter × List Block)) → parts_in named_ones label w.entry w.others ≡ m → IsWellFormed (function_of w m) → AreNumbered (function_of w m) → IsJudgeable (function_of w m)
+    go (so parts names) e formed names-numbered =
         let P = then-so (each_in parameter_in [] named_ones) _ parts names e in
         let B = then-so (blocks_in P.mid label w.entry w.others) _ parts names P.later in
         let parts-are : (let p : List Parameter × List Block = (P.value, B.value) in p) ≡ parts = cc B.later in
@@ -436,7 +436,7 @@ judgeable w few formed = go (parts_in named_ones label w.entry w.others) refl fo
         let bs : B.value ≡ parts.1 = ap (λ (p : List Parameter × List Block). p.1) parts-are in
         let F = few.blocks.1 in
         let M = blocks-made P.mid label w.entry w.others B.value B.mid B.first F.first F.later in
-        let small = subst (λ (ys : List Block). All IsSmallBlock ys) bs M.small in
+        let known = subst (λ (ys : List Block). All IsJudgeableBlock ys) bs M.insts in
         record {
           well_formed = formed;
           limits = record {
@@ -444,12 +444,15 @@ judgeable w few formed = go (parts_in named_ones label w.entry w.others) refl fo
             instructions = omega (arith, F.counted, M.count, ap (λ (ys : List Block). sum_by instructions_of ys) bs);
             cases = subst (λ (ys : List Block). All HasFewCases ys) bs M.cases;
             entries = subst (λ (ys : List Block). All HasFewEntries ys) bs M.entries;
-            objects = blocks-small _ formed.types small;
+            objects = blocks-small _ formed.types known;
           };
-          numbers = λ k d below. let all = small k d below in all.numbers;
+          numbered = names-numbered;
+          numbers = λ k d below. let all = known k d below in all.numbers;
+          undefs = λ k d below. let all = known k d below in all.undefs;
         }
 
 placeless-judgeable : (f : Function) → IsJudgeable f → IsJudgeable (without_places f)
+unfolding steps
 placeless-judgeable f h = record {
   well_formed = well_formed-placed f [] h.well_formed;
   limits = record {
@@ -459,7 +462,9 @@ placeless-judgeable f h = record {
     entries = h.limits.entries;
     objects = h.limits.objects;
   };
+  numbered = h.numbered;
   numbers = h.numbers;
+  undefs = h.undefs;
 }
 
 function-judgeable : (tokens : List Lexeme) (a : Result Function Refused) (f : Function) → IsFunction tokens a → a ≡ Ok f → IsJudgeable f

@@ -1,4 +1,4 @@
--- What is numbered has small objects, and its allocas small numbers.
+-- What is numbered has small objects, its allocas have small numbers, and only integers are undef.
 use Rattle.ir_reader.proofs.Common.{◌≡◌, ℕ, zero, suc, ◌+◌, ◌<◌, ◌≤◌, ◌⊎◌, inl, inr, Bool, true, false, List, [], ◌∷◌, length, get_or, refl, sym, subst, arith, nat_le, AllByRecursion, Contains, lt-leb, cases_lt, All-nil, All-cons, Contains-append_left, Contains-append_right, IsAlignment, HasSmallArrays, HasSmallTypes, HasSmallObjects, HasSmallNumber, type_align, object_size, with_name, number_of, Name, Inst, Block, Function, Int, Ptr, TypeClash, operand_site, index_sites, indices_sites, inst_sites, Passes, WrittenInst, WrittenAccess, WrittenGep, WrittenBody, so, each_in, value_in, typed_in, binary_in, icmp_in, cast_in, select_in, freeze_in, alloca_in, load_in, store_in, index_in, gep_in, inst_in, phi_in, terminator_in, block_in, then-so, block_with}
 use Rattle.std.proofs.Common.{All}
 use Rattle.std.specs.Prelude.{Some}
@@ -10,6 +10,8 @@ use Rattle.ir_tree.specs.declared.sites.Site.TheVariants.{Defines, Written}
 use Rattle.ir_tree.proofs.Standing.{inst_site}
 use Rattle.ir_words.specs.declared.written.WrittenInst.TheVariants as line
 use Rattle.ir_words.specs.declared.written.WrittenAccess.TheVariants as access
+use Rattle.undef_uses.specs.Undefs.{FitsUndef}
+use Rattle.ir_reader.proofs.Undefs.{HasWrittenUndefs, binary-numbered, divides_written, select-numbered}
 
 -- ---- what is written
 
@@ -22,10 +24,13 @@ IsSmallAccess (access.Store value to) = IsAlignment (type_align value.of_type.of
 abbrev pub IsSmallGep : WrittenGep → Type 0
 IsSmallGep g = (length g.of_type.of_type.lengths ≤ 8) × HasSmallArrays g.of_type.of_type.lengths g.of_type.of_type.element
 
-abbrev pub IsSmallInst : WrittenInst → Type 0
-IsSmallInst (line.Access a align) = IsSmallAccess a × IsAlignment align
-IsSmallInst (line.GetElementPtr g) = IsSmallGep g
-IsSmallInst _ = Unit {0}
+-- what is known of an instruction that is read
+abbrev pub IsReadInst : WrittenInst → Type 0
+IsReadInst (line.Binary into op type left right) = divides_written op left right ≡ false
+IsReadInst (line.Select into bit condition if_true if_false) = HasWrittenUndefs condition if_true if_false
+IsReadInst (line.Access a align) = IsSmallAccess a × IsAlignment align
+IsReadInst (line.GetElementPtr g) = IsSmallGep g
+IsReadInst _ = Unit {0}
 
 -- ---- what is made of it
 
@@ -34,77 +39,84 @@ abbrev HasSmallParts : Inst → Type 0
 HasSmallParts (inst.GetElementPtr into inbounds nuw type base indices) = (length type.lengths ≤ 8) × HasSmallArrays type.lengths type.element
 HasSmallParts x = HasSmallTypes x
 
-abbrev IsSmall : Inst → Type 0
-IsSmall x = HasSmallParts x × HasSmallNumber x
+abbrev IsJudgeableInst : Inst → Type 0
+IsJudgeableInst x = HasSmallParts x × HasSmallNumber x × FitsUndef x
 
-inst-small : (names : List Name) (i : WrittenInst) (x : Inst) (after : List Name) → inst_in names i ≡ so x after → IsSmallInst i → IsSmall x
+inst-judgeable : (names : List Name) (i : WrittenInst) (x : Inst) (after : List Name) → inst_in names i ≡ so x after → IsReadInst i → IsJudgeableInst x
 unfolding binary_in icmp_in cast_in select_in freeze_in alloca_in load_in store_in gep_in
-inst-small names (line.Binary into op type left right) x after e small =
+inst-judgeable names (line.Binary into op type left right) x after e known =
     let L = then-so (value_in (with_name names into.name) left.value) _ x after e in
     let R = then-so (value_in L.mid right.value) _ x after L.later in
     let is : inst.Binary (number_of names into.name) op type.width L.value R.value ≡ x = cc R.later in
-    subst IsSmall is (tt, tt)
-inst-small names (line.Icmp into predicate same_sign type left right) x after e small =
+    let divides = binary-numbered (number_of names into.name) op type.width (with_name names into.name) L.mid R.mid left right L.value R.value L.first R.first known in
+    subst IsJudgeableInst is (tt, tt, (divides, tt))
+inst-judgeable names (line.Icmp into predicate same_sign type left right) x after e known =
     let L = then-so (value_in (with_name names into.name) left.value) _ x after e in
     let R = then-so (value_in L.mid right.value) _ x after L.later in
     let is : inst.Icmp (number_of names into.name) predicate same_sign type.width L.value R.value ≡ x = cc R.later in
-    subst IsSmall is (tt, tt)
-inst-small names (line.Cast into cast from value to) x after e small =
+    subst IsJudgeableInst is (tt, tt, (refl, tt))
+inst-judgeable names (line.Cast into cast from value to) x after e known =
     let V = then-so (value_in (with_name names into.name) value.value) _ x after e in
     let is : inst.Cast (number_of names into.name) cast from.width V.value to.width ≡ x = cc V.later in
-    subst IsSmall is (tt, tt)
-inst-small names (line.Select into bit condition if_true if_false) x after e small =
+    subst IsJudgeableInst is (tt, tt, (refl, tt))
+inst-judgeable names (line.Select into bit condition if_true if_false) x after e known =
     let C = then-so (value_in (with_name names into.name) condition.value) _ x after e in
     let T = then-so (typed_in C.mid if_true) _ x after C.later in
     let F = then-so (typed_in T.mid if_false) _ x after T.later in
     let is : inst.Select (number_of names into.name) C.value T.value F.value ≡ x = cc F.later in
-    subst IsSmall is (tt, tt)
-inst-small names (line.Freeze into value) x after e small =
+    let undefs = select-numbered (number_of names into.name) (with_name names into.name) C.mid T.mid F.mid condition if_true if_false C.value T.value F.value C.first T.first F.first known in
+    subst IsJudgeableInst is (tt, tt, (refl, undefs))
+inst-judgeable names (line.Freeze into value) x after e known =
     let V = then-so (value_in (with_name names into.name) value.operand.value) _ x after e in
     let is : inst.Freeze (number_of names into.name) value.of_type.of_type V.value ≡ x = cc V.later in
-    subst IsSmall is (tt, tt)
-inst-small names (line.Access (access.Alloca into number type) align) x after e small =
+    subst IsJudgeableInst is (tt, tt, (refl, tt))
+inst-judgeable names (line.Access (access.Alloca into number type) align) x after e known =
     let is : inst.Alloca (number_of names into.name) number type.of_type align ≡ x = cc e in
-    subst IsSmall is ((small.0.1, small.0.2, small.1), small.0.0)
-inst-small names (line.Access (access.Load into type from) align) x after e small =
+    subst IsJudgeableInst is ((known.0.1, known.0.2, known.1), known.0.0, (refl, tt))
+inst-judgeable names (line.Access (access.Load into type from) align) x after e known =
     let V = then-so (value_in (with_name names into.name) from.operand.value) _ x after e in
     let is : inst.Load (number_of names into.name) type.of_type V.value align ≡ x = cc V.later in
-    subst IsSmall is (small.1, tt)
-inst-small names (line.Access (access.Store value to) align) x after e small =
+    subst IsJudgeableInst is (known.1, tt, (refl, tt))
+inst-judgeable names (line.Access (access.Store value to) align) x after e known =
     let T = then-so (typed_in names value) _ x after e in
     let V = then-so (value_in T.mid to.operand.value) _ x after T.later in
     let is : inst.Store T.value V.value align ≡ x = cc V.later in
-    subst IsSmall is (small.1, tt)
-inst-small names (line.GetElementPtr g) x after e small =
+    subst IsJudgeableInst is (known.1, tt, (refl, tt))
+inst-judgeable names (line.GetElementPtr g) x after e known =
     let V = then-so (value_in (with_name names g.into.name) g.base.operand.value) _ x after e in
     let I = then-so (each_in index_in V.mid g.indices) _ x after V.later in
     let is : inst.GetElementPtr (number_of names g.into.name) g.flags.inbounds g.flags.nuw g.of_type.of_type V.value I.value ≡ x = cc I.later in
-    subst IsSmall is (small, tt)
+    subst IsJudgeableInst is (known, tt, (refl, tt))
 
-insts-small : (items : List WrittenInst) (names : List Name) (bs : List Inst) (after : List Name) → each_in inst_in names items ≡ so bs after → AllByRecursion IsSmallInst items → All IsSmall bs
-insts-small [] names bs after e small = let is : [] ≡ bs = cc e in subst (λ (ys : List Inst). All IsSmall ys) is (All-nil IsSmall)
-insts-small (a ∷ items) names bs after e (first, others) =
+insts-judgeable : (items : List WrittenInst) (names : List Name) (bs : List Inst) (after : List Name) → each_in inst_in names items ≡ so bs after → AllByRecursion IsReadInst items → All IsJudgeableInst bs
+insts-judgeable [] names bs after e small = let is : [] ≡ bs = cc e in subst (λ (ys : List Inst). All IsJudgeableInst ys) is (All-nil IsJudgeableInst)
+insts-judgeable (a ∷ items) names bs after e (first, others) =
     let F = then-so (inst_in names a) _ bs after e in
     let M = then-so (each_in inst_in F.mid items) _ bs after F.later in
     let is : F.value ∷ M.value ≡ bs = cc M.later in
-    subst (λ (ys : List Inst). All IsSmall ys) is (All-cons IsSmall F.value M.value (inst-small names a F.value F.mid F.first first) (insts-small items F.mid M.value M.mid M.first others))
+    subst (λ (ys : List Inst). All IsJudgeableInst ys) is (All-cons IsJudgeableInst F.value M.value (inst-judgeable names a F.value F.mid F.first first) (insts-judgeable items F.mid M.value M.mid M.first others))
 
-pub record IsSmallBlock (b : Block) : Type 0 where
+pub record IsJudgeableBlock (b : Block) : Type 0 where
   pub parts : All HasSmallParts b.insts
   pub numbers : All HasSmallNumber b.insts
+  pub undefs : All FitsUndef b.insts
 
-small-block : (b : Block) → All IsSmall b.insts → IsSmallBlock b
-small-block b all = record { parts = λ k d below. let small = all k d below in small.0; numbers = λ k d below. let small = all k d below in small.1 }
+judgeable-block : (b : Block) → All IsJudgeableInst b.insts → IsJudgeableBlock b
+judgeable-block b all = record {
+  parts = λ k d below. let known = all k d below in known.0;
+  numbers = λ k d below. let known = all k d below in known.1;
+  undefs = λ k d below. let known = all k d below in known.2;
+}
 
-pub block-small : (names : List Name) (label : Name) (w : WrittenBody) (x : Block) (after : List Name) → block_in names label w ≡ so x after → AllByRecursion IsSmallInst w.insts → IsSmallBlock x
+pub block-judgeable : (names : List Name) (label : Name) (w : WrittenBody) (x : Block) (after : List Name) → block_in names label w ≡ so x after → AllByRecursion IsReadInst w.insts → IsJudgeableBlock x
 unfolding block_in
-block-small names label w x after e small =
+block-judgeable names label w x after e known =
     let before = with_name names label in
     let P = then-so (each_in phi_in before w.phis) _ x after e in
     let I = then-so (each_in inst_in P.mid w.insts) _ x after P.later in
     let T = then-so (terminator_in I.mid w.terminator) _ x after I.later in
     let is : block_with (number_of names label) P.value I.value T.value ≡ x = cc T.later in
-    subst IsSmallBlock is (small-block (block_with (number_of names label) P.value I.value T.value) (insts-small w.insts P.mid I.value I.mid I.first small))
+    subst IsJudgeableBlock is (judgeable-block (block_with (number_of names label) P.value I.value T.value) (insts-judgeable w.insts P.mid I.value I.mid I.first known))
 
 -- ---- types bound the indices of a getelementptr
 
@@ -142,7 +154,7 @@ few-indices (inst.GetElementPtr into inbounds nuw type base indices) clashes (ne
         absurd (clashes (Contains-append_right front (indices_sites (length type.lengths) 0 indices) (Written false) (subst (λ (b : Bool). Contains (indices_sites (length type.lengths) 0 indices) (Written b)) outside found)))
 
 -- what is small and has right types is within the limits of its objects
-pub blocks-small : (f : Function) → Passes TypeClash f → All IsSmallBlock f.blocks → All HasSmallObjects f.blocks
+pub blocks-small : (f : Function) → Passes TypeClash f → All IsJudgeableBlock f.blocks → All HasSmallObjects f.blocks
 blocks-small f types small = λ k d below.
     let b : Block = get_or f.blocks k d in
     λ j i inside.

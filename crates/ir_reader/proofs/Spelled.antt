@@ -7,7 +7,8 @@ use Rattle.ir_words.specs.declared.written.WrittenObject.{WrittenObject}
 use Rattle.ir_words.specs.declared.written.WrittenAccess.TheVariants as access
 use Rattle.ir_words.specs.Numbers.{is_negative, magnitude}
 use Rattle.ir_grammar.proofs.SmallArrays.{are-small}
-use Rattle.ir_reader.proofs.Objects.{IsSmallAccess, IsSmallInst}
+use Rattle.ir_reader.proofs.Objects.{IsSmallAccess, IsReadInst}
+use Rattle.ir_reader.proofs.Undefs.{binary-spelled, select-spelled}
 
 -- ---- alignments
 
@@ -88,25 +89,25 @@ gep-small x ts rest (found, m1, (m2, (s, m3, (flags, F, first), n, P), T), (clos
     let small : HasSmallArrays found.0.lengths found.1.of_type = are-small found.0.lengths found.1.of_type (small-element false found.0.lengths (memory_type_in T.first) T.first.place found.1 T.stands_for T.keeps) in
     subst (λ (y : GepFlags × WrittenObject). IsSmallNest y.1) same (nested, small)
 
--- ---- instructions on values have no objects
+-- ---- instructions on values: where undef may be an operand
 
-binary-small : (name : WrittenName) (o : Op) (type : WrittenIntType) (i : WrittenInst) (ts rest : List Lexeme) → Spells true (binary name o type) i ts rest → IsSmallInst i
+binary-known : (name : WrittenName) (o : Op) (type : WrittenIntType) (i : WrittenInst) (ts rest : List Lexeme) → Spells true (binary name o type) i ts rest → IsReadInst i
 unfolding binary
-binary-small name o type i ts rest (l, m1, t1, (comma, m2, t2, (r, m3, t3, (same, left)))) = subst IsSmallInst same tt
+binary-known name o type i ts rest (l, m1, L, (comma, m2, t2, (r, m3, R, (same, left)))) = subst IsReadInst same (binary-spelled o (Int type.width) l r ts m2 m1 m3 L R)
 
-cast-small : (name : WrittenName) (c : Cast) (from : WrittenIntType) (i : WrittenInst) (ts rest : List Lexeme) → Spells true (cast_by name c from) i ts rest → IsSmallInst i
+cast-known : (name : WrittenName) (c : Cast) (from : WrittenIntType) (i : WrittenInst) (ts rest : List Lexeme) → Spells true (cast_by name c from) i ts rest → IsReadInst i
 unfolding cast_by
-cast-small name c from i ts rest (v, m1, t1, (word_to, m2, t2, (to, m3, t3, (same, left)))) = subst IsSmallInst same tt
+cast-known name c from i ts rest (v, m1, t1, (word_to, m2, t2, (to, m3, t3, (same, left)))) = subst IsReadInst same tt
 
-pub plain-small : (name : WrittenName) (o : Opcode) (i : WrittenInst) (ts rest : List Lexeme) → Spells true (inst_by name o) i ts rest → IsSmallInst i
+pub plain-known : (name : WrittenName) (o : Opcode) (i : WrittenInst) (ts rest : List Lexeme) → Spells true (inst_by name o) i ts rest → IsReadInst i
 unfolding wrapping exact plain disjunction icmp truncate zero_extend sign_extend select freeze
-plain-small name (opcode.Wrapping w) i ts rest (flagged, mid, F, B) = binary-small name _ flagged.1 i mid rest B
-plain-small name (opcode.Exact w) i ts rest (flagged, mid, F, B) = binary-small name _ flagged.1 i mid rest B
-plain-small name (opcode.Plain o) i ts rest (type, mid, T, B) = binary-small name o type i mid rest B
-plain-small name opcode.Or i ts rest (flagged, mid, F, B) = binary-small name _ flagged.1 i mid rest B
-plain-small name opcode.Icmp i ts rest (compares, m1, C, (type, m2, t2, (l, m3, t3, (comma, m4, t4, (r, m5, t5, (same, left)))))) = subst IsSmallInst same tt
-plain-small name opcode.Truncate i ts rest (flagged, mid, F, B) = cast-small name _ flagged.1 i mid rest B
-plain-small name opcode.ZeroExtend i ts rest (flagged, mid, F, B) = cast-small name _ flagged.1 i mid rest B
-plain-small name opcode.SignExtend i ts rest (type, mid, T, B) = cast-small name _ type i mid rest B
-plain-small name opcode.Select i ts rest (bit, m1, t1, (condition, m2, t2, (comma, m3, t3, (if_true, m4, A, (comma', m5, t5, (if_false, m6, B, (same, left))))))) = subst IsSmallInst same tt
-plain-small name opcode.Freeze i ts rest (value, m1, V, (same, left)) = subst IsSmallInst same tt
+plain-known name (opcode.Wrapping w) i ts rest (flagged, mid, F, B) = binary-known name _ flagged.1 i mid rest B
+plain-known name (opcode.Exact w) i ts rest (flagged, mid, F, B) = binary-known name _ flagged.1 i mid rest B
+plain-known name (opcode.Plain o) i ts rest (type, mid, T, B) = binary-known name o type i mid rest B
+plain-known name opcode.Or i ts rest (flagged, mid, F, B) = binary-known name _ flagged.1 i mid rest B
+plain-known name opcode.Icmp i ts rest (compares, m1, C, (type, m2, t2, (l, m3, t3, (comma, m4, t4, (r, m5, t5, (same, left)))))) = subst IsReadInst same tt
+plain-known name opcode.Truncate i ts rest (flagged, mid, F, B) = cast-known name _ flagged.1 i mid rest B
+plain-known name opcode.ZeroExtend i ts rest (flagged, mid, F, B) = cast-known name _ flagged.1 i mid rest B
+plain-known name opcode.SignExtend i ts rest (type, mid, T, B) = cast-known name _ type i mid rest B
+plain-known name opcode.Select i ts rest (bit, m1, t1, (condition, m2, C, (comma, m3, t3, (if_true, m4, A, (comma', m5, t5, (if_false, m6, B, (same, left))))))) = subst IsReadInst same (select-spelled condition if_true if_false m1 m3 m5 m2 m4 m6 C A B)
+plain-known name opcode.Freeze i ts rest (value, m1, V, (same, left)) = subst IsReadInst same tt

@@ -1,8 +1,8 @@
 -- The pairs that are judged: the judge takes each of them, and there are no more of them than functions.
 use Rattle.module_rows.proofs.Common.{◌≡◌, ℕ, ◌+◌, ◌-◌, ◌*◌, ◌^◌, ◌<◌, ◌≤◌, arith, refl, List, [], ◌∷◌, ◌++◌, length, length-append, Option, Some, None, Result, Ok, Err, Bool, true, false, true≢false, sym, ap, is_some, if◌then◌else◌, AllByRecursion, Name, Function, Refused, Entry, same_name, IsJudgeable, IsJudgeableEntry, Functions, same_signature, CanBeJudged, function_named, pairs_in, judged_pairs, subst, same_Some}
 use Rattle.std.specs.Prelude.{IfSome}
-use Rattle.points.specs.Runnable.{IsRunnable}
-use Rattle.points.proofs.Runnable.{runnable}
+use Rattle.lowering.specs.Lowered.{CanBeLowered}
+use Rattle.lowering.proofs.Accepted.{accepted_can_be_lowered}
 use Rattle.module_rows.specs.Judging.{listed}
 use Rattle.std.proofs.Math.Nat.{mul-le-mul_left}
 
@@ -41,8 +41,12 @@ pair_judged (Ok f) (Some (Ok g)) s t = go (same_signature f g)
           target_formed = b.well_formed;
           source_limits = a.limits;
           target_limits = b.limits;
+          source_numbered = a.numbered;
+          target_numbered = b.numbered;
           source_numbers = a.numbers;
           target_numbers = b.numbers;
+          source_undefs = a.undefs;
+          target_undefs = b.undefs;
         }
 
     go : (same : Bool) → AllByRecursion CanBeJudged (if same then record { source = f; target = g } ∷ [] else [])
@@ -66,13 +70,18 @@ listed_judged targets source None all one is = tt
 listed_judged targets source (Some pair) all one is =
     (subst (λ (ps : List Functions). AllByRecursion CanBeJudged ps) is (pair_judged source.function (function_named targets source.name) one (named_judgeable targets source.name all))).0
 
--- and both its functions may be run
+pub judgeable_lowered : (f : Function) → IsJudgeable f → CanBeLowered f
+judgeable_lowered f h = accepted_can_be_lowered f h.numbered h.well_formed h.limits h.numbers h.undefs
+
+-- and both its functions can be lowered
 pub listed_runnable : (targets : List Entry) (source : Entry) (found : Option Functions) → AllByRecursion IsJudgeableEntry targets → IsJudgeableEntry source
-    → pairs_in source.function (function_named targets source.name) ≡ listed found → IfSome found (λ p. IsRunnable p.source × IsRunnable p.target)
+    → pairs_in source.function (function_named targets source.name) ≡ listed found → IfSome found (λ p. CanBeLowered p.source × CanBeLowered p.target)
 listed_runnable targets source None all one is = tt
 listed_runnable targets source (Some pair) all one is =
-    let can = listed_judged targets source (Some pair) all one is in
-    (runnable pair.source can.source_limits, runnable pair.target can.target_limits)
+    let can = listed_judged targets source (Some pair) all one is in (
+      accepted_can_be_lowered pair.source can.source_numbered can.source_formed can.source_limits can.source_numbers can.source_undefs,
+      accepted_can_be_lowered pair.target can.target_numbered can.target_formed can.target_limits can.target_numbers can.target_undefs,
+    )
 
 -- ---- how many there are
 

@@ -5,7 +5,7 @@ ghost use Rattle.std.specs.List.{IsDistinct, AllByRecursion};
 ghost use Rattle.ir_tree.specs.Names.{same_name};
 ghost use Rattle.ir_reader.specs.Judgeable.{IsJudgeableEntry};
 ghost use Rattle.pair_judge.specs.Answers.{CanBeJudged};
-ghost use Rattle.points.specs.Runnable.{IsRunnable};
+ghost use Rattle.lowering.specs.Lowered.{CanBeLowered};
 ghost use Rattle.report.specs.Rows.{IsRow, function_named};
 ghost use Rattle.module_rows.specs.Judging.{HasNext, listed, may_answer, pairs_in};
 ghost use Rattle.module_rows.specs.Searching.{entry_names};
@@ -65,7 +65,7 @@ pub fn pair_named<'m>(
     requires source_judgeable { IsJudgeableEntry source.now }
     requires target_judgeable { AllByRecursion IsJudgeableEntry target.now.entries }
     ensures pair { IfOk result (λ pair. pairs_in source.now.function (function_named target.now.entries source.now.name) ≡ listed pair) }
-    ensures runnable { IfOk result (λ pair. IfSome pair (λ p. IsRunnable p.source × IsRunnable p.target)) }
+    ensures runnable { IfOk result (λ pair. IfSome pair (λ p. CanBeLowered p.source × CanBeLowered p.target)) }
 {
     let targets = target.entries.as_slice();
     let names = names_of(alloc, targets)?;

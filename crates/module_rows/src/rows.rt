@@ -4,7 +4,7 @@ ghost use Rattle.std.specs.Prelude.{◌≡◌, ◌+◌, ◌*◌, ◌^◌, ◌<�
 ghost use Rattle.std.specs.List.{IsDistinct, AllByRecursion};
 ghost use Rattle.ir_tree.specs.Names.{same_name};
 ghost use Rattle.ir_reader.specs.Judgeable.{IsJudgeableEntry};
-ghost use Rattle.points.specs.Runnable.{IsRunnable};
+ghost use Rattle.lowering.specs.Lowered.{CanBeLowered};
 ghost use Rattle.report.specs.Rows.{IsJudged, IsFinding, IsRow, AreSourceRows, AreRows, extra_rows, function_named};
 ghost use Rattle.module_rows.specs.Judging.{AreAnswers, HasNext, IsTaken, IsUnjudged, ShowsVerdict, judged_pairs, pairs_in, listed, verdicts_answered, verdicts_in, verdicts_of};
 ghost use Rattle.module_rows.specs.Judging.{may_answer};
@@ -206,8 +206,8 @@ fn judged(
     pair: &Pair,
     left: &mut &[Judged],
 ) -> Result<Finding, NoMemory>
-    requires source { IsRunnable pair.now.source }
-    requires target { IsRunnable pair.now.target }
+    requires source { CanBeLowered pair.now.source }
+    requires target { CanBeLowered pair.now.target }
     requires answered { HasNext judge.now.bounds judge.now.budget (pair.now ∷ []) left.old.now }
     ensures found { IfOk result (IsJudged (may_answer judge.now.bounds judge.now.budget) judge.now.bounds pair.now) }
     ensures left { IfOk result (λ finding. IsTaken (pair.now ∷ []) (verdicts_in finding) left.old.now left.new.now) }
@@ -227,8 +227,8 @@ fn finding_of(
     bounds: &Bounds,
     verdict: &Verdict,
 ) -> Result<Finding, NoMemory>
-    requires source { IsRunnable pair.now.source }
-    requires target { IsRunnable pair.now.target }
+    requires source { CanBeLowered pair.now.source }
+    requires target { CanBeLowered pair.now.target }
     ensures { IfOk result (ShowsVerdict pair.now bounds.now verdict.now) }
 {
     match verdict {

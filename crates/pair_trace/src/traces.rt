@@ -1,14 +1,14 @@
 //! The runs of both sides of a counterexample.
 
 ghost use Rattle.std.specs.Prelude.{IfOk};
-ghost use Rattle.points.specs.Runnable.{IsRunnable};
+ghost use Rattle.lowering.specs.Lowered.{CanBeLowered};
 ghost use Rattle.pair_trace.specs.Traces.{AreTracesOf};
 
 use points::{Bounds, Point};
 use run_trace::{Trace, trace};
 use std::alloc::Global;
 use support::NoMemory;
-use verdicts::Pair;
+use verdicts::{LoweredPair, Pair};
 
 /// The runs of both sides.
 #[derive(Drop)]
@@ -30,11 +30,12 @@ pub fn trace_pair(
     bounds: &Bounds,
     point: &Point,
 ) -> Result<Traces, NoMemory>
-    requires source { IsRunnable pair.now.source }
-    requires target { IsRunnable pair.now.target }
+    requires source { CanBeLowered pair.now.source }
+    requires target { CanBeLowered pair.now.target }
     ensures { IfOk result (AreTracesOf pair.now bounds.now point.now) }
 {
-    let run = pair.run_pair();
+    let lowered = LoweredPair::new(alloc, pair)?;
+    let run = lowered.run_pair();
     let tape = point.tape.as_slice();
     Ok(Traces {
         source: trace(alloc, run.source(), bounds, &point.input, &[])?,

@@ -5,24 +5,25 @@
 #![tactic(auto)]
 
 ghost use Rattle.std.specs.Prelude.{IfOk};
-ghost use Rattle.points.specs.Runnable.{IsRunnable};
+ghost use Rattle.lowering.specs.Lowered.{CanBeLowered};
 ghost use Rattle.verdicts.specs.Shown.{IsShown};
 
 use choice_interp::interpret;
 use points::{Bounds, Point};
 use std::alloc::Global;
 use support::NoMemory;
-use verdicts::{Pair, Shown};
+use verdicts::{LoweredPair, Pair, Shown};
 
 /// The target's outcome on the point, the source's outcome on the tape of zeros, and how many words
 /// the target read.
 pub fn replay(alloc: Global, pair: &Pair, bounds: &Bounds, point: &Point) -> Result<Shown, NoMemory>
-    requires source { IsRunnable pair.now.source }
-    requires target { IsRunnable pair.now.target }
+    requires source { CanBeLowered pair.now.source }
+    requires target { CanBeLowered pair.now.target }
     ensures { IfOk result (IsShown pair.now bounds.now point.now) }
 {
     let tape = point.tape.as_slice();
-    let run = pair.run_pair();
+    let lowered = LoweredPair::new(alloc, pair)?;
+    let run = lowered.run_pair();
     let target = interpret(alloc, run.target(), bounds, &point.input, tape)?;
     let source = interpret(alloc, run.source(), bounds, &point.input, &[])?;
     Ok(Shown {

@@ -3,7 +3,9 @@ use Rattle.slow_judge.proofs.Common.{◌≡◌, ℕ, ◌+◌, ◌≤◌, ◌<◌
 use Rattle.points.specs.declared.point.Budget.{Budget}
 use Rattle.verdicts.specs.declared.verdict.Verdict.{Verdict}
 use Rattle.verdicts.specs.declared.verdict.Verdict.TheVariants.{Correct, Incorrect, Unknown}
-use Rattle.verdicts.specs.declared.verdict.Cause.TheVariants.{Weight, Rounds}
+use Rattle.verdicts.specs.declared.verdict.Cause.TheVariants.{Weight, Rounds, Conflicts}
+use Rattle.verdicts.specs.Pair.{run_pair}
+use Rattle.verdicts.specs.Trail.{open_point}
 use Rattle.verdicts.specs.Weight.{IsHeavy}
 
 pub record IsGrown (pair : RunPair) (bounds : Bounds) (budget : Budget) (tapes : List (List ℕ)) : Type 0 where
@@ -83,3 +85,16 @@ grown_full pair bounds budget tapes p tape grown least cover full = record {
 
 pub heavy_is : (pair : Functions) (bounds : Bounds) (budget : Budget) → IsHeavy pair bounds budget → IsVerdict pair bounds budget (Unknown Weight)
 heavy_is pair bounds budget h = record { kept = record { tapes = []; points = [] }; judges = record { heavy = h; tapes = refl; points = refl } }
+
+-- ---- a pair that is not too heavy
+
+never : (pair : RunPair) (bounds : Bounds) (budget : Budget) (tapes : List (List ℕ)) (o : Option Point) → Ends pair bounds budget tapes o (Unknown Weight) → ⊥
+never pair bounds budget tapes None e = e
+never pair bounds budget tapes (Some p) e = e
+
+pub light_is : (pair : Functions) (bounds : Bounds) (budget : Budget) (v : Verdict) → ¬ IsHeavy pair bounds budget → HasTrail (run_pair pair) bounds budget v → IsVerdict pair bounds budget v
+light_is pair bounds budget Correct light h = record { kept = h.kept; judges = record { not_heavy = light; trail = h.trail; within = h.within; ends = h.ends } }
+light_is pair bounds budget (Incorrect p) light h = record { kept = h.kept; judges = record { not_heavy = light; trail = h.trail; within = h.within; ends = h.ends } }
+light_is pair bounds budget (Unknown Rounds) light h = record { kept = h.kept; judges = record { not_heavy = light; trail = h.trail; within = h.within; ends = h.ends } }
+light_is pair bounds budget (Unknown Conflicts) light h = record { kept = h.kept; judges = record { not_heavy = light; trail = h.trail; within = h.within; ends = h.ends } }
+light_is pair bounds budget (Unknown Weight) light h = absurd (never (run_pair pair) bounds budget h.kept.tapes (open_point h.kept) h.ends)

@@ -2,8 +2,10 @@
 
 ghost use Rattle.std.specs.Prelude.{◌≡◌, IfOk};
 ghost use Rattle.ir_tree.specs.Limits.{IsWithinLimits};
+ghost use Rattle.lowering.specs.Lowered.{CanBeLowered};
 ghost use Rattle.points.specs.Range.{AreInRange};
 ghost use Rattle.points.specs.Tapes.{need_of, widest_choice};
+ghost use Rattle.verdicts.specs.Pair.{run_pair};
 ghost use Rattle.verdicts.specs.Trail.{IsVerdict};
 ghost use Rattle.pair_costs.specs.Small.{AreSmall};
 ghost use Rattle.slow_judge.specs.Search.{AreRunnable, IsReady, HasTrail};
@@ -16,7 +18,7 @@ use pair_costs::{need, weight, widest_of};
 use points::{Bounds, Budget};
 use std::alloc::Global;
 use support::{NoMemory, Sequence};
-use verdicts::{Cause, Pair, RunPair, Verdict};
+use verdicts::{Cause, LoweredPair, Pair, RunPair, Verdict};
 
 fn bench_for(alloc: Global, pair: &RunPair, bounds: &Bounds, need: usize) -> Result<Bench, NoMemory>
     requires { need ≡ need_of bounds.now.turns pair.now.source }
@@ -71,24 +73,17 @@ fn grow(
     }
 }
 
-/// The verdict on a pair. Its time grows with two to the power of the pair's bits, and with all given
-/// blocks of the bounds where one of the functions has pointers.
-#[tactic(auto, using(points::proofs::Runnable::runnable))]
-pub fn slow(
+/// The verdict on the functions of a pair that is not too heavy, as they are run.
+fn found_of(
     alloc: Global,
-    pair: &Pair,
+    run: &RunPair,
     bounds: &Bounds,
     budget: &Budget,
 ) -> Result<Verdict, NoMemory>
-    requires source_limits { IsWithinLimits pair.now.source }
-    requires target_limits { IsWithinLimits pair.now.target }
-    requires in_range { AreInRange bounds.now budget.now }
-    ensures { IfOk result (IsVerdict pair.now bounds.now budget.now) }
+    requires pair { AreRunnable run.now }
+    requires small { AreSmall bounds.now }
+    ensures { IfOk result (HasTrail run.now bounds.now budget.now) }
 {
-    if budget.weight < weight(pair, bounds)? {
-        return Ok(Verdict::Unknown(Cause::Weight));
-    }
-    let run = pair.run_pair();
     let of_source = Tape {
         words: need(run.source(), bounds.turns)? as usize,
         width: widest_of(run.source()),
@@ -97,6 +92,37 @@ pub fn slow(
         words: need(run.target(), bounds.turns)? as usize,
         width: widest_of(run.target()),
     };
-    let verdict = grow(alloc, &run, bounds, budget, of_source, of_target)?;
-    Ok(verdict)
+    grow(alloc, run, bounds, budget, of_source, of_target)
+}
+
+/// The verdict on a pair that is not too heavy.
+fn found(alloc: Global, pair: &Pair, bounds: &Bounds, budget: &Budget) -> Result<Verdict, NoMemory>
+    requires source_run { CanBeLowered pair.now.source }
+    requires target_run { CanBeLowered pair.now.target }
+    requires in_range { AreInRange bounds.now budget.now }
+    ensures { IfOk result (HasTrail (run_pair pair.now) bounds.now budget.now) }
+{
+    let lowered = LoweredPair::new(alloc, pair)?;
+    found_of(alloc, &lowered.run_pair(), bounds, budget)
+}
+
+/// The verdict on a pair. Its time grows with two to the power of the pair's bits, and with all given
+/// blocks of the bounds where one of the functions has pointers.
+pub fn slow(
+    alloc: Global,
+    pair: &Pair,
+    bounds: &Bounds,
+    budget: &Budget,
+) -> Result<Verdict, NoMemory>
+    requires source_limits { IsWithinLimits pair.now.source }
+    requires target_limits { IsWithinLimits pair.now.target }
+    requires source_run { CanBeLowered pair.now.source }
+    requires target_run { CanBeLowered pair.now.target }
+    requires in_range { AreInRange bounds.now budget.now }
+    ensures { IfOk result (IsVerdict pair.now bounds.now budget.now) }
+{
+    if budget.weight < weight(pair, bounds)? {
+        return Ok(Verdict::Unknown(Cause::Weight));
+    }
+    found(alloc, pair, bounds, budget)
 }

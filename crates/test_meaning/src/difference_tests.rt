@@ -1,17 +1,18 @@
 //! How the outcomes of two runs differ. The block 1 has one byte, which is 0.
 
+ghost use Rattle.ir_reader.specs.Judgeable.{IsJudgeable};
+
 use crate::expecting::expect;
-use crate::functions::two_in;
+use crate::pairs::pair_in;
 use crate::words::value_in;
 use byte_block::{BlockName, Byte, MemoryBlock, Value};
 use ir_reader::read;
-use ir_tree::{Function, is_within_limits};
 use pair_trace::{difference_of, trace_pair};
 use points::{Bounds, Input, Point};
 use std::alloc::Global;
 use std::test::Fail;
 use support::{NoMemory, Sequence};
-use verdicts::{Pair, has_same_signature};
+use verdicts::Pair;
 
 const BOUNDS: Bounds = Bounds {
     turns: 0,
@@ -53,24 +54,15 @@ fn input_of(alloc: Global, arg: Value) -> Result<Input, NoMemory> {
     })
 }
 
-#[tactic(auto, using(points::proofs::Runnable::runnable))]
-fn difference(
-    alloc: Global,
-    source: &Function,
-    target: &Function,
-    arg: Value,
-) -> Result<String, Fail> {
-    if !is_within_limits(source) || !is_within_limits(target) {
-        return Err(Fail::from("within the limits"));
-    }
-    if !has_same_signature(source, target) {
-        return Err(Fail::from("of one signature"));
-    }
+fn difference(alloc: Global, pair: &Pair, arg: Value) -> Result<String, Fail>
+    requires source { IsJudgeable pair.now.source }
+    requires target { IsJudgeable pair.now.target }
+{
     let point = Point {
         input: input_of(alloc, arg)?,
         tape: Sequence::from_vec(Vec::new(alloc)),
     };
-    let traces = trace_pair(alloc, &Pair::new(source, target), &BOUNDS, &point)?;
+    let traces = trace_pair(alloc, pair, &BOUNDS, &point)?;
     let found = difference_of(&traces.source.outcome, &traces.target.outcome);
     let text = format!(in alloc; "{:?}", found)?;
     Ok(text)
@@ -80,9 +72,9 @@ fn holds(alloc: Global, row: &str) -> Result<bool, Fail> {
     let (arg, rest) = row.split_once(" | ").ok_or("an argument")?;
     let (wanted, text) = rest.split_once(" | ").ok_or("a difference")?;
     let module = read(alloc, text.as_bytes()).ok().ok_or("a module")?;
-    let (source, target) = two_in(&module).ok_or("a pair")?;
+    let pair = pair_in(&module).ok_or("a pair")?;
     let arg = value_in(arg).ok_or("an argument")?;
-    Ok(difference(alloc, source, target, arg)?.as_str() == wanted)
+    Ok(difference(alloc, &pair, arg)?.as_str() == wanted)
 }
 
 #[test]

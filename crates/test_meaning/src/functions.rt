@@ -7,7 +7,7 @@ ghost use Rattle.choice_interp.specs.Runners.{IsRunner};
 use byte_block::Value;
 use choice_interp::{Ending, Ran, Runner, interpret, run_again};
 use ir_reader::read;
-use ir_tree::{Entry, Function, Module, is_within_limits};
+use ir_tree::{Entry, Function, is_within_limits};
 use points::{Bounds, Input};
 use std::alloc::Global;
 use std::test::Fail;
@@ -27,17 +27,6 @@ pub fn function_of(alloc: Global, text: &str) -> Result<Function, Fail>
         Ok(function) if is_within_limits(&function) => Ok(function),
         _ => Err(Fail::from("no function that is read")),
     }
-}
-
-/// The two functions of a module, if it has two and both are read.
-pub fn two_in(module: &Module) -> Option<(&Function, &Function)> {
-    let [first, second] = module.entries.as_slice() else {
-        return None;
-    };
-    Some((
-        first.function.as_ref().ok()?,
-        second.function.as_ref().ok()?,
-    ))
 }
 
 /// The run of a text's function.

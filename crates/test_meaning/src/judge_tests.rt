@@ -1,16 +1,19 @@
 //! Verdicts of the judge by counting on pairs with pointers and memory.
 
+ghost use Rattle.std.specs.List.{AllByRecursion};
+ghost use Rattle.ir_reader.specs.Judgeable.{IsJudgeableEntry};
+
 use crate::expecting::expect;
-use crate::functions::two_in;
 use crate::judge_rows::PAIRS;
+use crate::pairs::pair_in;
 use crate::words::{fields_in, numbers_in, value_in};
 use ir_reader::read;
-use ir_tree::{Module, is_within_limits};
+use ir_tree::Module;
 use points::{Bounds, Budget, Point};
 use slow_judge::slow;
 use std::alloc::Global;
 use std::test::Fail;
-use verdicts::{Pair, Verdict, has_same_signature};
+use verdicts::Verdict;
 
 const BUDGET: Budget = Budget {
     rounds: 15,
@@ -19,18 +22,14 @@ const BUDGET: Budget = Budget {
 };
 
 /// The verdict on a module's pair within these bounds.
-fn verdict(alloc: Global, module: &Module, bounds: &Bounds) -> Result<Verdict, Fail> {
-    let (source, target) = two_in(module).ok_or("a pair")?;
-    if !is_within_limits(source) || !is_within_limits(target) {
-        return Err(Fail::from("within the limits"));
-    }
+fn verdict(alloc: Global, module: &Module, bounds: &Bounds) -> Result<Verdict, Fail>
+    requires { AllByRecursion IsJudgeableEntry module.now.entries }
+{
+    let pair = pair_in(module).ok_or("a pair of one signature")?;
     if bounds.turns > 64 || bounds.blocks > 4 || bounds.bytes > 32 {
         return Err(Fail::from("bounds in their ranges"));
     }
-    if !has_same_signature(source, target) {
-        return Err(Fail::from("of one signature"));
-    }
-    let verdict = slow(alloc, &Pair::new(source, target), bounds, &BUDGET)?;
+    let verdict = slow(alloc, &pair, bounds, &BUDGET)?;
     Ok(verdict)
 }
 

@@ -41,6 +41,8 @@ mod memory_rows;
 #[cfg(test)]
 mod memory_tests;
 #[cfg(test)]
+mod pairs;
+#[cfg(test)]
 mod reason_rows;
 #[cfg(test)]
 mod run_tests;

@@ -1,9 +1,12 @@
 //! The copies of blocks for each count of backward jumps, and what a pair needs and weighs.
 
+ghost use Rattle.std.specs.List.{AllByRecursion};
+ghost use Rattle.ir_reader.specs.Judgeable.{IsJudgeableEntry};
+
 use crate::expecting::expect;
-use crate::functions::two_in;
+use crate::pairs::pair_in;
 use ir_reader::read;
-use ir_tree::{Block, Case, Function, Module, Name, Names, Operand, Terminator, is_within_limits};
+use ir_tree::{Block, Case, Function, Module, Name, Names, Operand, Terminator};
 use pair_costs::{need, weight, widest_of};
 use points::Bounds;
 use std::alloc::Global;
@@ -11,7 +14,6 @@ use std::test::Fail;
 use support::{NoMemory, Sequence};
 use tv_num::Width;
 use unroll::{BlockCopy, Edge, layers};
-use verdicts::{Pair, has_same_signature};
 
 /// A block of no instructions.
 fn block(alloc: Global, label: usize, terminator: Terminator) -> Block {
@@ -170,16 +172,13 @@ type Measures = (u64, [u64; 2], [u32; 2]);
 
 /// What the pair of a module measures.
 #[tactic(auto, using(points::proofs::Runnable::runnable))]
-fn measured(module: &Module) -> Option<Measures> {
-    let (source, target) = two_in(module)?;
-    if !is_within_limits(source) || !is_within_limits(target) {
-        return None;
-    }
-    if !has_same_signature(source, target) {
-        return None;
-    }
+fn measured(module: &Module) -> Option<Measures>
+    requires { AllByRecursion IsJudgeableEntry module.now.entries }
+{
+    let pair = pair_in(module)?;
+    let (source, target) = (pair.source(), pair.target());
     Some((
-        weight(&Pair::new(source, target), &BOUNDS).ok()?,
+        weight(&pair, &BOUNDS).ok()?,
         [need(source, 4).ok()?, need(target, 4).ok()?],
         [widest_of(source).bits(), widest_of(target).bits()],
     ))

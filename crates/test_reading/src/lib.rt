@@ -29,6 +29,8 @@ mod item_tests;
 #[cfg(test)]
 mod lexing_tests;
 #[cfg(test)]
+mod lowering_tests;
+#[cfg(test)]
 mod made_functions;
 #[cfg(test)]
 mod memory_tests;
@@ -42,5 +44,7 @@ mod print_tests;
 mod tests;
 #[cfg(test)]
 mod token_lists;
+#[cfg(test)]
+mod undef_functions;
 #[cfg(test)]
 mod undef_tests;

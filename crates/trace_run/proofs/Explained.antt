@@ -10,7 +10,6 @@ use Rattle.points.specs.declared.point.Budget.{Budget}
 use Rattle.points.specs.declared.point.Point.{Point}
 use Rattle.points.specs.Refines.{is_refined}
 use Rattle.points.specs.Run.{run_of}
-use Rattle.points.proofs.Runnable.{runnable}
 use Rattle.verdicts.specs.declared.verdict.Verdict.{Verdict}
 use Rattle.verdicts.specs.declared.verdict.Verdict.TheVariants as verdict
 use Rattle.verdicts.specs.Pair.{Functions, run_pair, same_signature}
@@ -22,7 +21,7 @@ use Rattle.report.specs.declared.row.Finding.{Finding}
 use Rattle.report.specs.declared.row.Finding.TheVariants as finding
 use Rattle.report.specs.Rows.{IsCompared, IsFinding, function_named}
 use Rattle.module_rows.specs.Judging.{listed, may_answer, pairs_in}
-use Rattle.module_rows.proofs.Pairs.{named_judgeable}
+use Rattle.module_rows.proofs.Pairs.{named_judgeable, judgeable_lowered}
 use Rattle.trace_run.specs.Explanations.{CanBeExplained, CanExplain}
 
 abbrev Judgeable : Result Function Refused → Type 0
@@ -49,8 +48,8 @@ module _ (law : IncorrectFails) (bounds : Bounds) (budget : Budget) where
   pair_explained : (f g : Function) (p : Point) → IsJudgeable f → IsJudgeable g → MayBeTold (record { source = f; target = g }) bounds budget (verdict.Incorrect p)
       → CanBeExplained (record { source = f; target = g }) bounds p
   pair_explained f g p source target told = record {
-    source_runs = runnable f source.limits;
-    target_runs = runnable g target.limits;
+    source_runs = judgeable_lowered f source;
+    target_runs = judgeable_lowered g target;
     fails = fails_at law (record { source = f; target = g }) bounds budget p (verdict_of (record { source = f; target = g }) bounds budget p told);
   }
 

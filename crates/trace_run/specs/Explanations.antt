@@ -6,7 +6,7 @@ use Rattle.points.specs.declared.point.Budget.{Budget}
 use Rattle.points.specs.declared.point.Point.{Point}
 use Rattle.points.specs.Refines.{is_refined}
 use Rattle.points.specs.Run.{run_of}
-use Rattle.points.specs.Runnable.{IsRunnable}
+use Rattle.lowering.specs.Lowered.{CanBeLowered}
 use Rattle.verdicts.specs.Pair.{Functions, run_pair}
 use Rattle.report.specs.declared.row.Finding.{Finding}
 use Rattle.report.specs.declared.row.Finding.TheVariants as finding
@@ -51,8 +51,8 @@ pub record IsExplanation (bounds : Bounds) (budget : Budget) (targets : List Ent
 
 -- the source's run on the tape of zeros does not allow the target's run at the point
 pub record CanBeExplained (pair : Functions) (bounds : Bounds) (point : Point) : Type 0 where
-  pub source_runs : IsRunnable pair.source
-  pub target_runs : IsRunnable pair.target
+  pub source_runs : CanBeLowered pair.source
+  pub target_runs : CanBeLowered pair.target
   pub fails : is_refined (run_of (run_pair pair).source bounds point.input []).outcome (run_of (run_pair pair).target bounds point.input point.tape).outcome ≡ false
 
 abbrev pub CanExplain : Bounds → Finding → Option Functions → Type 0

@@ -4,7 +4,7 @@ ghost use Rattle.std.specs.Prelude.{◌≡◌, IfOk, IfSome};
 ghost use Rattle.std.specs.List.{IsDistinct, AllByRecursion};
 ghost use Rattle.ir_tree.specs.Names.{same_name};
 ghost use Rattle.ir_reader.specs.Judgeable.{IsJudgeableEntry};
-ghost use Rattle.points.specs.Runnable.{IsRunnable};
+ghost use Rattle.lowering.specs.Lowered.{CanBeLowered};
 ghost use Rattle.verdicts.specs.Laws.{IsWithin};
 ghost use Rattle.verdicts.specs.Pair.{run_pair};
 ghost use Rattle.module_rows.specs.Searching.{entry_names};
@@ -56,8 +56,8 @@ fn row_at(
     bounds: &Bounds,
     point: &Point,
 ) -> Result<Option<Row>, NoMemory>
-    requires source { IsRunnable pair.now.source }
-    requires target { IsRunnable pair.now.target }
+    requires source { CanBeLowered pair.now.source }
+    requires target { CanBeLowered pair.now.target }
     ensures { IfOk result (λ found. IfSome found (ShowsPoint pair.now bounds.now point.now name.now)) }
 {
     let shown = replay(alloc, pair, bounds, point)?;
@@ -81,8 +81,8 @@ fn shown_at(
     bounds: &Bounds,
     point: &Point,
 ) -> Result<Option<Explanation>, NoMemory>
-    requires source { IsRunnable pair.now.source }
-    requires target { IsRunnable pair.now.target }
+    requires source { CanBeLowered pair.now.source }
+    requires target { CanBeLowered pair.now.target }
     ensures { IfOk result (λ found. IfSome found (λ e. IsShownAt pair.now bounds.now point.now name.now rest.now e.text.items e.status)) }
 {
     let Some(row) = row_at(alloc, name, pair, bounds, point)? else {

@@ -1,7 +1,8 @@
 //! The text of runs.
 
 ghost use Rattle.std.specs.Prelude.{◌≡◌, ◌++◌, OnOk, IfOk};
-ghost use Rattle.trace_text.specs.TraceText.{step_texts, returned_text, outcome_text, run_text, trace_text};
+ghost use Rattle.lowering.specs.Lowered.{CanBeLowered};
+ghost use Rattle.trace_text.specs.TraceText.{step_texts, returned_text, outcome_text, run_text, trace_text, source_title, target_title, difference_line};
 
 use crate::differences::push_difference;
 use crate::steps::push_step;
@@ -13,7 +14,7 @@ use points::Outcome;
 use run_trace::{Step, Trace};
 use std::alloc::Global;
 use support::NoMemory;
-use verdicts::Pair;
+use verdicts::{LoweredPair, Pair, RunPair};
 
 /// The text of the two runs of a pair, and of how they differ. The first line of each run says which
 /// it is; the last line begins with `difference: `. Each line ends with a newline.
@@ -26,10 +27,24 @@ pub fn text_of(
     traces: &Traces,
     difference: Difference,
 ) -> Result<Vec<u8>, NoMemory>
+    requires source { CanBeLowered pair.now.source }
+    requires target { CanBeLowered pair.now.target }
     ensures { IfOk result (λ text. text.items ≡ trace_text pair.now traces.now difference) }
 {
+    let lowered = LoweredPair::new(alloc, pair)?;
+    text_in(alloc, &lowered.run_pair(), traces, difference)
+}
+
+/// The text of the two runs of a pair of functions as they are run.
+fn text_in(
+    alloc: Global,
+    run: &RunPair,
+    traces: &Traces,
+    difference: Difference,
+) -> Result<Vec<u8>, NoMemory>
+    ensures { IfOk result (λ text. text.items ≡ run_text source_title run.now.source traces.now.source ++ run_text target_title run.now.target traces.now.target ++ difference_line traces.now.source.outcome difference) }
+{
     let mut out = Vec::new(alloc);
-    let run = pair.run_pair();
     push_run(
         alloc,
         &mut out,

@@ -5,7 +5,7 @@
 //! otherwise the refusal reports the first use or name for which this fails. Each use of undef may be
 //! another value (LLVM Language Reference, "Undefined Values"), and so may each use of a register that
 //! an operation makes from it. It uses `ir_tree`, and `ir_check`, whose checks come first; the reader
-//! of functions uses it.
+//! of functions uses it, and `lowering` the counts of leaves.
 #![tactic(auto)]
 
 ghost use Rattle.std.specs.Prelude.{OnOk, IfErr};
@@ -19,7 +19,7 @@ mod counting;
 mod users;
 mod uses;
 
-use counting::leaf_counts;
+pub use counting::leaf_counts;
 use ir_tree::{CheckFault, Function, Reason, refusal_at, sites_of};
 use std::alloc::Global;
 use uses::first_undef_use;

@@ -4,6 +4,7 @@ use Rattle.ir_tree.specs.declared.tree.IrType.{IrType}
 use Rattle.ir_tree.specs.declared.tree.Parameter.{Parameter}
 use Rattle.ir_tree.specs.declared.tree.Function.{Function}
 use Rattle.ir_tree.specs.Sites.{is_same_type}
+use Rattle.lowering.specs.Lowered.{lowered}
 use Rattle.points.specs.declared.point.Bounds.{Bounds}
 use Rattle.points.specs.declared.point.Layout.{Layout}
 
@@ -17,9 +18,14 @@ pub record RunPair : Type 0 where
   pub source : Function
   pub target : Function
 
--- both functions are run as they are read
+-- both functions are run with each use of undef written out
 abbrev pub run_pair : Functions → RunPair
-run_pair pair = record { source = pair.source; target = pair.target }
+run_pair pair = record { source = lowered pair.source; target = lowered pair.target }
+
+-- the function that was made, or this one
+abbrev pub function_or : Option Function → Function → Function
+function_or None f = f
+function_or (Some made) f = made
 
 -- what the memory of the pair's inputs looks like
 abbrev pub layout_of : RunPair → Bounds → Layout

@@ -1,5 +1,5 @@
 ghost use Rattle.std.specs.Prelude.{◌≡◌, true};
-ghost use Rattle.verdicts.specs.Pair.{run_pair, same_return, same_types, same_signature};
+ghost use Rattle.verdicts.specs.Pair.{same_return, same_types, same_signature};
 
 use ir_tree::{Function, IrType, Parameter, is_same_type};
 use std::marker::Model;
@@ -40,51 +40,6 @@ impl<'m> Pair<'m> {
     }
 
     /// The function after it.
-    pub fn target(&self) -> &'m Function
-        ensures value { result.now ≡ self.now.target }
-        ensures signature { same_signature self.now.source self.now.target ≡ true }
-    {
-        self.target
-    }
-
-    /// The pair as it is run.
-    pub fn run_pair(&self) -> RunPair<'m>
-        ensures { result ≡ run_pair self.now }
-    {
-        RunPair {
-            source: self.source,
-            target: self.target,
-        }
-    }
-}
-
-/// A pair as it is run: the source and the target, of equal signature.
-#[derive(Drop)]
-pub struct RunPair<'m> {
-    source: &'m Function,
-    target: &'m Function,
-}
-
-impl<'m> Model for RunPair<'m> {
-    ghost use Rattle.std.specs.Prelude.{◌≡◌, true};
-    ghost use Rattle.verdicts.specs.Pair.{RunPair, same_signature};
-
-    ghost Value = { RunPair };
-
-    ghost view = { λ p. record { source = p.source.now; target = p.target.now } };
-
-    ghost invariant = { λ p. same_signature p.source.now p.target.now ≡ true };
-}
-
-impl<'m> RunPair<'m> {
-    /// The source as it is run.
-    pub fn source(&self) -> &'m Function
-        ensures { result.now ≡ self.now.source }
-    {
-        self.source
-    }
-
-    /// The target as it is run.
     pub fn target(&self) -> &'m Function
         ensures value { result.now ≡ self.now.target }
         ensures signature { same_signature self.now.source self.now.target ≡ true }

@@ -8,6 +8,6 @@ use Rattle.instantiate.proofs.settling.settle.Goals as goal
 pub returns : goal.returns
 returns c =
     let light : ¬ IsHeavy c.args.pair.now c.args.bounds.now c.args.budget.now = λ h. omega (arith, h) in
-    IfOk-weaker c.grow.result _ _
-    (λ settled told. judged c.args.pair.now c.args.bounds.now c.args.budget.now settled.kept settled.cert settled.verdict light (rw (c.in_ok-subject.ensures.pair, c.in_ok-subject.ensures.bounds, c.run_pair-run.ensures) at told))
-    c.grow.ensures
+    IfOk-weaker c.told_of.result _ _
+    (λ settled told. judged c.args.pair.now c.args.bounds.now c.args.budget.now settled.kept settled.cert settled.verdict light told)
+    c.told_of.ensures
