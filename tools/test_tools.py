@@ -947,6 +947,34 @@ def baseline(bench):
     equal(bench.file("base"), "f @a refused source Unsupported\nf @b unknown weight\n", "the list")
 
 
+def baseline_of_lines(bench):
+    """The JSON lines of the plugin: rows of two compilers, each with an end."""
+    rows = [{"file": "a.c", "pass": "gvn", "function": "f", "kind": "refused",
+             "detail": "source Unsupported 3:4"},
+            {"file": "b.c", "pass": "gvn", "function": "f", "kind": "correct", "detail": ""},
+            {"file": "b.c", "kind": "end", "rows": 1}, {"file": "a.c", "kind": "end", "rows": 1}]
+    lines = [json.dumps(row) + "\n" for row in rows]
+    bench.write("rows", "".join(lines))
+    done = bench.run("tv-baseline", "base", "rows")
+    equal((done.returncode, done.stdout),
+          (1, "new: a.c gvn @f refused source Unsupported\nrows 2 incorrect 0 new 1 gone 0\n"),
+          "a new row")
+    equal(bench.run("tv-baseline", "base", "rows", "--write").returncode, 0, "status of --write")
+    for text, said in (("".join(lines[:3]), "the rows of a.c have no end"),
+                       ("".join(lines) + '{"file": "a', "rows:5: not a line of the plugin"),
+                       ('{"kind": "end"}\n', "rows:1: not a line of the plugin")):
+        bench.write("rows", text)
+        done = bench.run("tv-baseline", "base", "rows")
+        equal(done.returncode, 2, "status of a report that isn't whole")
+        has(done.stderr, said)
+
+
+def lower_without_plugin(bench):
+    done = bench.run("tv-check", "--lower", ARITH, ARITH, TV_LLVM="/none")
+    equal(done.returncode, 127, "status")
+    has(done.stderr, "/none: no such plugin; build it")
+
+
 def baseline_of_tree(bench):
     tree_run(bench, "--out", "one")
     done = bench.run("tv-baseline", "base", "one/rows.csv", "--write")
@@ -1309,7 +1337,7 @@ FAKE_ONLY = [help_is_one_screen, quick_without_rt, check_folders, check_front, c
              opt_judges_nothing, opt_same, opt_asks_once, opt_summary,
              opt_without_tv, opt_slow_pair, opt_whole_refusal, tree_by_lines, tree_resumes,
              tree_time_out, tree_stopped, tree_bad_folder, reduced, nothing_to_reduce, baseline,
-             baseline_of_tree, proof_parts, wrong_logs, no_proof_files, wrong_lrat]
+             baseline_of_lines, lower_without_plugin, baseline_of_tree, proof_parts, wrong_logs, no_proof_files, wrong_lrat]
 PUTS = [put_beside_a_file, put_beside_no_file, put_with_all_names_taken, put_to_a_pipe,
         put_to_a_device, put_through_a_link, put_keeps_permissions, put_leaves_hard_links,
         put_to_the_longest_name, put_in_a_closed_folder]

@@ -90,9 +90,27 @@ def walked(paths):
     return files
 
 
+def written_out(module):
+    """The module with each function written out in what tv reads, by the plugin's pass tv-lower."""
+    done = tvlib.run([tvlib.opt_program(), f"-load-pass-plugin={tvlib.plugin()}", "-S",
+                      "-passes=tv-lower", "-o", "-", "-"],
+                     module.text.encode("utf-8", "surrogateescape"), OPT_SECONDS)
+    if done.status != 0:
+        raise Failure(UNREADABLE, f"{module.path}: {last_line(done.errors) or 'opt failed'}")
+    return tvir.Module(text_of(done.output, module.path), module.path, raw=module)
+
+
+def pair_of(path, other, source, target, original, lower):
+    """Two modules as a pair, written out where that is asked for."""
+    names = tvir.names_of(source, target)
+    if lower:
+        source, target = written_out(source), written_out(target)
+    return Pair(path, other, source, target, names, original)
+
+
 # The forms of a command line.
 
-def of_two(before, after):
+def of_two(before, after, lower=False):
     """The pairs of two files, or of the files with equal names in two folders."""
     if os.path.isdir(before) != os.path.isdir(after):
         folder, file = (before, after) if os.path.isdir(before) else (after, before)
@@ -103,20 +121,26 @@ def of_two(before, after):
             raise Failure(WORDS, "standard input can be one of the two only: tv-check A -")
         source = module_of(before)
         target = module_of(after)
-        return [Pair(before, after, source, target, tvir.names_of(source, target), source)]
+        return [pair_of(before, after, source, target, source, lower)]
     pairs = []
     for path in walked([before]):
         other = os.path.join(after, os.path.relpath(path, before))
         if os.path.exists(other):
-            pairs += of_two(path, other)
+            pairs += of_two(path, other, lower)
         else:
             pairs.append(Pair(path, other, fault=f"no file {other}"))
     return pairs
 
 
-def of_one(path):
+def of_one(path, lower=False):
     """A file with @src and @tgt, @src1 and @tgt1, and so on, as a pair."""
-    return src_and_tgt(module_of(path), path)
+    module = module_of(path)
+    pair = src_and_tgt(module, path)
+    if not lower:
+        return pair
+    whole = src_and_tgt(written_out(module), path)
+    whole.source.raw, whole.target.raw, whole.original = pair.source, pair.target, pair.source
+    return whole
 
 
 def src_and_tgt(module, path):
@@ -136,7 +160,7 @@ def src_and_tgt(module, path):
     return Pair(path, path, source, target, names, source)
 
 
-def of_opt(path, args, before):
+def of_opt(path, args, before, lower=False):
     """A file and what opt makes of it, after the passes `before` where there are any."""
     data, made = bytes_of(path), []
     original = tvir.Module(text_of(data, path), path)
@@ -154,4 +178,4 @@ def of_opt(path, args, before):
         data = done.output
         texts.append(text_of(data, path))
     source, target = tvir.Module(texts[-2], path), tvir.Module(texts[-1], path)
-    return Pair(path, f"opt {args}", source, target, tvir.names_of(source, target), original)
+    return pair_of(path, f"opt {args}", source, target, original, lower)

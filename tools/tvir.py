@@ -160,10 +160,11 @@ class Alone:
 
 
 class Module:
-    """A module's text with its functions, and its other items by the names that they define."""
+    """A module's text with its functions, and its other items by the names that they define. `raw`
+    is the module that this one was written out from by the plugin, or None."""
 
-    def __init__(self, text, path=""):
-        self.text, self.path = text, path
+    def __init__(self, text, path="", raw=None):
+        self.text, self.path, self.raw = text, path, raw
         self.lines = text.splitlines()
         self.functions = {}
         for function in functions_of(text):
@@ -189,10 +190,18 @@ class Module:
                 if mention in self.items and mention not in wanted:
                     wanted[mention] = self.items[mention]
                     queue.append(self.items[mention][1])
-        above = self.layout + sorted(wanted.values(), key=lambda item: item[1])
+        layout = [] if "layout" in self.noted(name, "tv-rules") else self.layout
+        above = layout + sorted(wanted.values(), key=lambda item: item[1])
         body = range(function.first, function.first + len(text.splitlines()))
         return Alone("".join(line + "\n" for _, line in above) + text,
                      (*(number for number, _ in above), *body))
+
+    def noted(self, name, key):
+        """The words of an attribute of a function that the plugin wrote, e.g. `tv-rules`."""
+        groups = re.findall(r"#\d+", blank(self.functions[name].header)) if self.raw else []
+        lines = [self.items[group][1] for group in groups if group in self.items]
+        found = re.search(rf'"{key}"="([^"]*)"', "".join(lines))
+        return found.group(1).split() if found else []
 
     def rest(self, line, column):
         """The text of a line from a column (in bytes, from 1) on; empty at the end."""
@@ -221,6 +230,7 @@ def names_of(source, target):
 def is_same(source, target, name):
     """Whether a function's text is the same in both modules, with the items that it names and but
     for comments."""
+    source, target = source.raw or source, target.raw or target
     if name not in source.functions or name not in target.functions:
         return False
     texts = [module.functions[name].text for module in (source, target)]

@@ -12,6 +12,7 @@ Programs and limits come from the environment, the same for every script:
     TV_OPT     LLVM's opt (default: opt-19, then opt)
     TV_DIS     llvm-dis, for bitcode (default: llvm-dis-19, then llvm-dis)
     TV_REDUCE  llvm-reduce (default: llvm-reduce-19, then llvm-reduce)
+    TV_LLVM    the plugin tv-llvm.so (default: llvm/build/tv-llvm.so of this tree)
 """
 import dataclasses
 import functools
@@ -100,6 +101,17 @@ def opt_program():
 @functools.lru_cache(maxsize=None)
 def dis_program():
     return program("TV_DIS", "llvm-dis-19", "llvm-dis")
+
+
+@functools.lru_cache(maxsize=None)
+def plugin():
+    """The path of the plugin for opt, whose pass tv-lower writes functions out."""
+    built = os.path.join(os.path.dirname(HERE), "llvm", "build", "tv-llvm.so")
+    chosen = os.environ.get("TV_LLVM", built)
+    if os.path.isfile(chosen):
+        return os.path.abspath(chosen)
+    raise Failure(NOT_FOUND, f"{chosen}: no such plugin; build it (cmake -S llvm -B llvm/build && "
+                             "make -C llvm/build), or set TV_LLVM to its path")
 
 
 def tv_args():

@@ -127,6 +127,7 @@ def object_of(pair, row):
         "counterexample": [dict(zip(("what", "name", "value", "forms"), point))
                            for point in points(row.lines, function)],
         "trace": row.trace,
+        "rules": row.rules, "mark": row.mark(), "marked_by": row.doubts,
     }
 
 

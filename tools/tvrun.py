@@ -28,7 +28,13 @@ POSITION = re.compile(r"(\d+):(\d+)$")
 BOUNDS = re.compile(r" \[((?:[a-z]+ \d+ ?)*)\]$")
 FAULT = re.compile(r"(?:.*/)?(before|after)\.ll:(\d+):(\d+): (.*)")
 SIDES = {"before": "source", "after": "target"}
+HOW = re.compile(r" by ((?:[-!\w.]+, )*[-!\w.]+)"
+                 r"(?:; (?:fault may hide|false alarm possible): (.+))?$")
+MARKS = {"correct": "fault may hide", "bounded": "fault may hide",
+         "incorrect": "false alarm possible"}
 TRACED = "    | "
+# Promises of the caller: what a function does can't break them.
+OF_CALLER = re.compile(r"arg\d+:(align\(|dereferenceable|writable$|sret$)")
 
 
 @dataclasses.dataclass
@@ -36,7 +42,9 @@ class Row:
     """A row of a report: name, kind, what follows the kind, and the lines of a counterexample.
     Of a row that these scripts made also the bounds that aren't tv's own, the seconds that its
     processes took, of a refusal what is at its position and the class of advice for it, and of a
-    counterexample the lines of both runs, step by step, where they were asked for."""
+    counterexample the lines of both runs, step by step, where they were asked for. Where both
+    functions were written out by the plugin, the rules by which they were, and the promises of
+    which tv wasn't told and that make the row doubtful."""
     name: str
     kind: str
     detail: str = ""
@@ -46,13 +54,21 @@ class Row:
     what: str = ""
     advice: str = ""
     trace: list = dataclasses.field(default_factory=list)
+    rules: list = dataclasses.field(default_factory=list)
+    doubts: list = dataclasses.field(default_factory=list)
 
     def text(self):
-        """The row as a line: name, kind, detail, and the bounds in brackets."""
+        """The row as a line: name, kind, detail, the bounds in brackets, rules and doubts."""
         bounds = " ".join(f"{key} {number}" for key, number in self.bounds.items())
         what = self.what if self.kind == "refused" else ""
-        return " ".join(filter(None, [f"@{self.name}", self.kind, self.detail, what,
-                                      bounds and f"[{bounds}]"]))
+        line = " ".join(filter(None, [f"@{self.name}", self.kind, self.detail, what,
+                                      bounds and f"[{bounds}]",
+                                      self.rules and f"by {', '.join(self.rules)}"]))
+        return f"{line}; {self.mark()}: {', '.join(self.doubts)}" if self.doubts else line
+
+    def mark(self):
+        """What the promises that tv wasn't told of may mean for the row, or an empty text."""
+        return MARKS[self.kind] if self.doubts else ""
 
     def whole(self):
         """The row with its lines."""
@@ -84,6 +100,7 @@ def rows_of(report):
         found = ROW.match(line)
         if found:
             detail, bounds = found.group(3) or "", {}
+            detail, rules, doubts = how_of(detail)
             mark = BOUNDS.search(" " + detail)
             if mark:
                 words = mark.group(1).split()
@@ -92,7 +109,8 @@ def rows_of(report):
             refusal, what = REFUSAL.match(detail), ""
             if found.group(2) == "refused" and refusal:
                 detail, what = refusal.groups("")
-            rows.append(Row(found.group(1), found.group(2), detail, bounds=bounds, what=what))
+            rows.append(Row(found.group(1), found.group(2), detail, bounds=bounds, what=what,
+                            rules=rules, doubts=doubts))
             last = rows[-1]
         elif line.startswith(TRACED) and last:
             last.trace.append(line[len(TRACED):])
@@ -101,6 +119,15 @@ def rows_of(report):
         else:
             last = None
     return rows
+
+
+def how_of(detail):
+    """A row's detail without rules and doubts at its end, and these."""
+    found = HOW.search(" " + detail)
+    if not found:
+        return detail, [], []
+    return (detail[:max(0, found.start() - 1)], found.group(1).split(", "),
+            found.group(2).split(", ") if found.group(2) else [])
 
 
 def counts_of(rows):
@@ -239,7 +266,30 @@ def judge(source, target, name, how):
     if row.kind == "incorrect" and how.traces:
         row.trace = traced(row, sides, how, bounds)
     return dataclasses.replace(row, seconds=round(time.monotonic() - begun, 3),
-                               bounds=shown_bounds(bounds) if row.kind in JUDGED else {})
+                               bounds=shown_bounds(bounds) if row.kind in JUDGED else {},
+                               rules=rules_of(source, target, name),
+                               doubts=doubts_of(source, target, name, row.kind))
+
+
+def rules_of(source, target, name):
+    """The rules by which the plugin wrote the two functions out."""
+    return sorted({rule for module in (source, target) for rule in module.noted(name, "tv-rules")})
+
+
+def doubts_of(source, target, name, kind):
+    """The promises that tv wasn't told of and that make a row doubtful. One that is missing in the
+    source may make `incorrect` a false alarm, but for a caller's of a parameter that neither
+    function uses. One that is missing in the target may make `correct` hide a fault, but for a
+    caller's that the source has too."""
+    if kind == "incorrect":
+        unused = set(source.noted(name, "tv-unused")) & set(target.noted(name, "tv-unused"))
+        return [each for each in source.noted(name, "tv-dropped")
+                if not OF_CALLER.match(each) or each.split(":")[0] not in unused]
+    if kind in MARKS:
+        shared = set(source.noted(name, "tv-dropped"))
+        return [each for each in target.noted(name, "tv-dropped")
+                if not OF_CALLER.match(each) or each not in shared]
+    return []
 
 
 def traced(row, sides, how, bounds):

@@ -20,18 +20,20 @@ ATTRIBUTES = {"noalias", "nocapture", "captures", "nonnull", "readonly", "readno
 ADVICE = {
     "call": "calls are not read: inline them on both sides first (--before 'always-inline' or "
             "'inline'), or give the pass functions without calls",
-    "intrinsic": "intrinsics are not read: leave out the pass that makes it, or check the passes "
-                 "one at a time (tools/opt-tv with TV_STEPS=1)",
-    "attribute": "take it out on both sides and check again: a promise that both sides have only "
-                 "leaves inputs out, so `correct` then holds with it; `incorrect` may come from "
-                 "its absence",
-    "metadata": "take it out on both sides: clang writes no !tbaa with -fno-strict-aliasing, and "
-                "no !dbg without -g; it only promises, as an attribute does",
+    "intrinsic": "intrinsics are not read: --lower writes many out (docs/PLUGIN.md); else leave out "
+                 "the pass that makes it, or check the passes one at a time (tools/opt-tv with "
+                 "TV_STEPS=1)",
+    "attribute": "--lower drops it, and marks the row where it may matter (docs/PLUGIN.md); by hand: "
+                 "take it out on both sides, where `correct` then holds for what a caller promises, "
+                 "and `incorrect` may come from its absence",
+    "metadata": "--lower drops it, and marks the row (docs/PLUGIN.md); clang writes no !tbaa with "
+                "-fno-strict-aliasing, and no !dbg without -g",
     "floating point": "floating point is not read: leave the function out (--function, or a line "
                       "of tv-baseline)",
     "vector": "vectors are not read: check the scalar pass, or run 'scalarizer' on both sides",
-    "struct": "structs are not read: 'instcombine' on both sides first writes constant offsets of "
-              "fields in bytes (--before 'function(sroa,instcombine)'), 'sroa' takes values apart",
+    "struct": "--lower writes fields in bytes (docs/PLUGIN.md), as 'instcombine' on both sides does "
+              "with constant offsets (--before 'function(sroa,instcombine)'); 'sroa' takes values "
+              "apart",
     "global": "globals and constant expressions are not read: pass the address as a parameter "
               "on both sides",
     "undef": "undef is read in `freeze` and `ret` alone: put poison or a parameter for it",
@@ -39,7 +41,8 @@ ADVICE = {
     "atomic": "atomic and volatile accesses are not read",
     "type": "a type that is not read here: integers have 1 to 64 bits, memory holds i8, i16, "
             "i32, i64 and ptr",
-    "data layout": "tv judges 64-bit little-endian targets: give both modules such a layout",
+    "data layout": "tv judges 64-bit little-endian targets: give both modules such a layout; "
+                   "--lower takes it away where a function has no memory",
     "limit": "past a limit of docs/REPORT.md: make the number or the function smaller",
     "text": "not LLVM IR as opt prints it: run `opt -S -passes=verify` on the file",
     "other": "not read: docs/REPORT.md lists what is",

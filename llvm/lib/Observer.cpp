@@ -1,0 +1,203 @@
+//===- Observer.cpp - Sees each pass, and has what it changed checked -----===//
+//
+// A function is hashed before and after each pass that may change it. Only
+// where the hash differs is it copied, printed and compared with the text that
+// is kept from the last change; so a function that no pass changes costs its
+// hashes and one text.
+//
+// Functions are known by name. One that a pass deletes has no row, nor has one
+// that it makes: there is nothing to compare.
+//
+//===----------------------------------------------------------------------===//
+
+#include "Observer.h"
+#include "OneFunction.h"
+#include "llvm/ADT/StringExtras.h"
+#include "llvm/Analysis/LazyCallGraph.h"
+#include "llvm/Analysis/LoopInfo.h"
+#include "llvm/Support/ErrorHandling.h"
+#include "llvm/Support/FileSystem.h"
+#include "llvm/Support/Path.h"
+#include "llvm/Support/WithColor.h"
+#include "llvm/Support/raw_ostream.h"
+
+using namespace llvm;
+
+/// Whether a pass only runs others or computes something. A printer or a
+/// verifier is seen like any other: it costs two hashes.
+static bool isIgnored(StringRef Pass) {
+  return isSpecialPass(Pass,
+                       {"PassManager", "PassAdaptor", "AnalysisManagerProxy",
+                        "DevirtSCCRepeatedPass", "ModuleInlinerWrapperPass",
+                        "RequireAnalysisPass", "InvalidateAnalysisPass",
+                        "InvalidateAllAnalysesPass"});
+}
+
+/// The functions of what a pass runs on.
+static std::vector<const Function *> functionsOf(Any IR) {
+  std::vector<const Function *> Found;
+  if (const auto **M = any_cast<const Module *>(&IR)) {
+    for (const Function &F : **M)
+      Found.push_back(&F);
+  } else if (const auto **F = any_cast<const Function *>(&IR)) {
+    Found.push_back(*F);
+  } else if (const auto **C = any_cast<const LazyCallGraph::SCC *>(&IR)) {
+    for (const LazyCallGraph::Node &Node : **C)
+      Found.push_back(&Node.getFunction());
+  } else if (const auto **L = any_cast<const Loop *>(&IR)) {
+    Found.push_back((*L)->getHeader()->getParent());
+  }
+  return Found;
+}
+
+/// What a function is known by: its name, or its address where it has none.
+static std::string keyOf(const Function &F) {
+  if (F.hasName())
+    return F.getName().str();
+  return std::string(1, '\0') + utohexstr(reinterpret_cast<uintptr_t>(&F));
+}
+
+static const Function *functionOf(const Module &M, StringRef Key) {
+  if (!Key.starts_with(StringRef("\0", 1)))
+    return M.getFunction(Key);
+  for (const Function &F : M)
+    if (keyOf(F) == Key)
+      return &F;
+  return nullptr;
+}
+
+tv::Observer::Observer(Options Given, PassInstrumentationCallbacks &Callbacks)
+    : Opts(std::move(Given)), Callbacks(Callbacks),
+      Judge(createProcessChecker(Opts)), Rows(Opts) {}
+
+/// An error that has to be seen, but must not change what the compiler does.
+static void warn(Error Failure) {
+  if (Failure)
+    WithColor::warning(errs(), "tv") << toString(std::move(Failure)) << '\n';
+}
+
+tv::Observer::~Observer() { warn(Rows.finish()); }
+
+tv::Observer::Seen tv::Observer::see(const Function &F, uint64_t Hash) const {
+  Seen Found;
+  Found.Hash = Hash;
+  std::optional<Alone> Copy = cloneAlone(F);
+  Found.Text = Copy ? textOf(*Copy->Module) : printed(F);
+  Found.Now.Text = Found.Text;
+  if (!Copy)
+    return Found;
+  if (Opts.Lower)
+    Found.How = lowerFunction(*Copy->Function);
+  Found.Now.Memory = needsOf(*Copy->Function);
+  Found.Now.Text = textOf(*Copy->Module);
+  return Found;
+}
+
+void tv::Observer::before(StringRef Pass, Any IR) {
+  if (isIgnored(Pass))
+    return;
+  bool IsWide =
+      !any_cast<const Function *>(&IR) && !any_cast<const Loop *>(&IR);
+  Running Frame{Pass.str(), IsWide, nullptr, {}};
+  for (const Function *F : functionsOf(IR)) {
+    if (F->isDeclaration() || !Opts.isSelected(F->getName()))
+      continue;
+    Frame.Module = F->getParent();
+    Frame.Functions.push_back(keyOf(*F));
+    uint64_t Hash = printedHash(*F);
+    auto Found = Known.find(Frame.Functions.back());
+    if (Found == Known.end() || Found->second.Hash != Hash)
+      Known[Frame.Functions.back()] = see(*F, Hash);
+  }
+  Stack.push_back(std::move(Frame));
+}
+
+void tv::Observer::after(StringRef Pass) {
+  if (isIgnored(Pass) || Stack.empty())
+    return;
+  Running Frame = std::move(Stack.back());
+  Stack.pop_back();
+  for (const std::string &Key : Frame.Functions) {
+    const Function *F = functionOf(*Frame.Module, Key);
+    if (F && !F->isDeclaration())
+      compare(Frame, *F);
+    else
+      Known.erase(Key);
+  }
+}
+
+/// A pass as it is shown: its name in a pipeline, or its class.
+static std::string nameOf(StringRef Pass,
+                          PassInstrumentationCallbacks &Callbacks) {
+  StringRef Short = Callbacks.getPassNameForClassName(Pass);
+  if (!Short.empty())
+    return Short.str();
+  // gcc and clang write a class without a namespace's name so.
+  if (!Pass.consume_front("{anonymous}::"))
+    Pass.consume_front("(anonymous namespace)::");
+  return Pass.str();
+}
+
+void tv::Observer::compare(const Running &Pass, const Function &F) {
+  Seen &Last = Known[keyOf(F)];
+  uint64_t Hash = printedHash(F);
+  if (Hash == Last.Hash)
+    return;
+  Seen Next = see(F, Hash);
+  // The rules may leave out all that changed: the texts before them say whether
+  // something did.
+  if (Next.Text != Last.Text) {
+    report({F.getParent()->getModuleIdentifier(), nameOf(Pass.Pass, Callbacks),
+            F.hasName() ? F.getName().str() : "unnamed"},
+           Pass.IsWide && F.hasLocalLinkage(), Last, Next);
+  }
+  Last = std::move(Next);
+}
+
+void tv::Observer::report(const Place &At, bool SeesCallers, const Seen &Source,
+                          const Seen &Target) {
+  Answer Row = Judge->check(Source.Now, Target.Now);
+  Written How;
+  std::set<std::string> Rules = Source.How.Rules;
+  Rules.insert(Target.How.Rules.begin(), Target.How.Rules.end());
+  How.Rules.assign(Rules.begin(), Rules.end());
+  How.Alarms = falseAlarms(Source.How, Target.How);
+  How.Hides = hiddenFaults(Source.How, Target.How);
+  // A pass that knows all callers may use what they pass.
+  if (SeesCallers)
+    How.Alarms.push_back("callers");
+  warn(Rows.add(At, Row, How));
+  if (!Opts.KeepFolder.empty() && Row.Kind != "correct")
+    keep(At, Row, Source, Target);
+  if (!Opts.ExitOnError || Row.Kind != "incorrect")
+    return;
+  warn(Rows.finish());
+  Judge.reset();
+  // The compiler's own files are removed on this way out, and no crash is
+  // reported.
+  report_fatal_error("tv: @" + Twine(At.Function) + " incorrect after " +
+                         At.Pass,
+                     /*gen_crash_diag=*/false);
+}
+
+void tv::Observer::keep(const Place &At, const Answer &Row, const Seen &Source,
+                        const Seen &Target) {
+  SmallString<128> Stem = StringRef(Opts.KeepFolder);
+  if (std::error_code Code = sys::fs::create_directories(Stem))
+    return warn(createStringError(Stem + ": " + Code.message()));
+  std::string Name = At.Function + "-" + At.Pass;
+  std::replace_if(
+      Name.begin(), Name.end(),
+      [](char C) { return !isAlnum(C) && C != '-' && C != '_' && C != '.'; },
+      '_');
+  sys::path::append(Stem, utostr(++Kept) + "-" + Name);
+  for (auto [Ending, Side] : {std::pair(".before.ll", &Source.Now),
+                              std::pair(".after.ll", &Target.Now)}) {
+    std::error_code Code;
+    raw_fd_ostream File((Stem + Ending).str(), Code);
+    if (!Code)
+      File << Side->Text;
+    else
+      warn(createStringError(Stem + Ending + ": " + Code.message()));
+  }
+}

@@ -1,0 +1,60 @@
+//===- Observer.h - Sees each pass, and has what it changed checked -------===//
+
+#ifndef TV_LLVM_OBSERVER_H
+#define TV_LLVM_OBSERVER_H
+
+#include "Checker.h"
+#include "Lowering.h"
+#include "Report.h"
+#include "llvm/ADT/Any.h"
+#include "llvm/ADT/StringMap.h"
+#include "llvm/IR/PassInstrumentation.h"
+
+namespace tv {
+
+class Observer {
+public:
+  Observer(Options Given, llvm::PassInstrumentationCallbacks &Callbacks);
+  ~Observer();
+
+  void before(llvm::StringRef Pass, llvm::Any IR);
+  void after(llvm::StringRef Pass);
+
+private:
+  /// A function when it was last seen.
+  struct Seen {
+    uint64_t Hash = 0;
+    /// The module with this function alone, before any rule.
+    std::string Text;
+    Side Now;
+    Lowered How;
+  };
+
+  /// A pass that runs: the functions that it may change.
+  struct Running {
+    std::string Pass;
+    /// Whether it sees more than one function.
+    bool IsWide;
+    const llvm::Module *Module;
+    std::vector<std::string> Functions;
+  };
+
+  Seen see(const llvm::Function &F, uint64_t Hash) const;
+  void compare(const Running &Pass, const llvm::Function &F);
+  void report(const Place &At, bool SeesCallers, const Seen &Source,
+              const Seen &Target);
+  void keep(const Place &At, const Answer &Row, const Seen &Source,
+            const Seen &Target);
+
+  Options Opts;
+  llvm::PassInstrumentationCallbacks &Callbacks;
+  std::unique_ptr<Checker> Judge;
+  Report Rows;
+  std::vector<Running> Stack;
+  llvm::StringMap<Seen> Known;
+  unsigned Kept = 0;
+};
+
+} // namespace tv
+
+#endif

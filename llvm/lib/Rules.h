@@ -1,0 +1,56 @@
+//===- Rules.h - What the rules of one kind share -------------------------===//
+
+#ifndef TV_LLVM_RULES_H
+#define TV_LLVM_RULES_H
+
+#include "Lowering.h"
+#include "llvm/IR/IRBuilder.h"
+#include "llvm/IR/IntrinsicInst.h"
+#include "llvm/IR/NoFolder.h"
+
+namespace tv {
+
+/// A builder that folds nothing: LLVM's folding may choose a value for undef,
+/// so its result would be one of several.
+using Builder = llvm::IRBuilder<llvm::NoFolder>;
+
+/// The widest integer that tv reads.
+constexpr unsigned MaxWidth = 64;
+
+/// Whether a type is an integer that tv reads.
+bool isReadInteger(const llvm::Type *Type);
+
+/// Whether a value may be an undef of which each use is another value. Such a
+/// value must not be used twice where it was used once.
+bool carriesUndef(const llvm::Value *V);
+
+/// The value, or poison where it is outside the range.
+llvm::Value *inRange(Builder &B, llvm::Value *V,
+                     const llvm::ConstantRange &Range);
+
+/// Makes a run undefined where the integer is poison.
+void requireDefined(Builder &B, llvm::Value *V);
+
+/// Each rewrites a function by the rules of one kind.
+void lowerHeader(llvm::Function &F, Lowered &How);
+void lowerPromises(llvm::Function &F, Lowered &How);
+void lowerConstants(llvm::Function &F, Lowered &How);
+void lowerHints(llvm::Function &F, Lowered &How);
+void lowerIntegers(llvm::Function &F, Lowered &How);
+void lowerAssumes(llvm::Function &F, Lowered &How);
+void lowerMemory(llvm::Function &F, Lowered &How);
+
+/// What an integer intrinsic gives, in instructions before it; null where it
+/// is none that a rule is for.
+llvm::Value *writtenOut(Builder &B, llvm::IntrinsicInst &I);
+
+/// The two parts of a `with.overflow`.
+struct WithOverflow {
+  llvm::Value *Result;
+  llvm::Value *Overflows;
+};
+WithOverflow writtenOut(Builder &B, llvm::WithOverflowInst &I);
+
+} // namespace tv
+
+#endif

@@ -1,0 +1,93 @@
+//===- WrongPasses.cpp - Passes that are wrong, for the tests -------------===//
+
+#include "llvm/IR/InstIterator.h"
+#include "llvm/IR/Instructions.h"
+#include "llvm/IR/Module.h"
+#include "llvm/Passes/PassBuilder.h"
+#include "llvm/Passes/PassPlugin.h"
+
+using namespace llvm;
+
+namespace {
+
+/// Makes a difference of each sum.
+struct SubtractPass : PassInfoMixin<SubtractPass> {
+  PreservedAnalyses run(Function &F, FunctionAnalysisManager &) {
+    for (Instruction &I : make_early_inc_range(instructions(F)))
+      if (I.getOpcode() == Instruction::Add) {
+        auto *New =
+            BinaryOperator::CreateSub(I.getOperand(0), I.getOperand(1), "", &I);
+        I.replaceAllUsesWith(New);
+        I.eraseFromParent();
+      }
+    return PreservedAnalyses::none();
+  }
+};
+
+/// Says of each sum that it doesn't wrap: changes flags alone, and claims that
+/// it changes nothing.
+struct FlagPass : PassInfoMixin<FlagPass> {
+  PreservedAnalyses run(Function &F, FunctionAnalysisManager &) {
+    for (Instruction &I : instructions(F))
+      if (I.getOpcode() == Instruction::Add)
+        I.setHasNoUnsignedWrap();
+    return PreservedAnalyses::all();
+  }
+};
+
+/// Says of each pointer parameter that it has no alias.
+struct AliasPass : PassInfoMixin<AliasPass> {
+  PreservedAnalyses run(Function &F, FunctionAnalysisManager &) {
+    for (Argument &A : F.args())
+      if (A.getType()->isPointerTy())
+        A.addAttr(Attribute::NoAlias);
+    return PreservedAnalyses::none();
+  }
+};
+
+/// A module pass that makes a difference of each sum, and deletes what it may.
+struct WholePass : PassInfoMixin<WholePass> {
+  PreservedAnalyses run(Module &M, ModuleAnalysisManager &) {
+    FunctionAnalysisManager None;
+    for (Function &F : make_early_inc_range(M)) {
+      if (F.hasLocalLinkage() && F.use_empty())
+        F.eraseFromParent();
+      else
+        SubtractPass().run(F, None);
+    }
+    return PreservedAnalyses::none();
+  }
+};
+
+} // namespace
+
+static bool addToFunction(StringRef Name, FunctionPassManager &Passes,
+                          ArrayRef<PassBuilder::PipelineElement>) {
+  if (Name == "wrong-sub")
+    Passes.addPass(SubtractPass());
+  else if (Name == "wrong-flag")
+    Passes.addPass(FlagPass());
+  else if (Name == "wrong-alias")
+    Passes.addPass(AliasPass());
+  else
+    return false;
+  return true;
+}
+
+static bool addToModule(StringRef Name, ModulePassManager &Passes,
+                        ArrayRef<PassBuilder::PipelineElement>) {
+  if (Name != "wrong-module")
+    return false;
+  Passes.addPass(WholePass());
+  return true;
+}
+
+extern "C" LLVM_ATTRIBUTE_WEAK
+    LLVM_ATTRIBUTE_VISIBILITY_DEFAULT PassPluginLibraryInfo
+    llvmGetPassPluginInfo() {
+  return {LLVM_PLUGIN_API_VERSION, "wrong-passes", LLVM_VERSION_STRING,
+          [](PassBuilder &Builder) {
+            Builder.registerPipelineParsingCallback(addToFunction);
+            Builder.registerPipelineParsingCallback(addToModule);
+          }};
+}

@@ -1,0 +1,391 @@
+#!/usr/bin/env python3
+"""Tests of the plugin for LLVM: builds it, and runs it in opt and in clang.
+
+    llvm/test/test_plugin.py [-v] [--whole] [-k CASE..]
+
+Needs cmake, a C++ compiler, llvm-19-dev and clang-19, and a tv (crates/tv/out/tv, or the variable
+TV); where one isn't there, a line says so and the tests are skipped. The build is kept in
+llvm/build/test. With --whole the rules for integers are tried on all inputs that
+llvm/RULES.md names, which takes minutes. The last line counts; the status is 1 where a case failed.
+"""
+import json
+import os
+import re
+import shutil
+import stat
+import subprocess
+import sys
+import tempfile
+import time
+
+import rules
+
+HERE = os.path.dirname(os.path.realpath(__file__))
+TREE = os.path.dirname(os.path.dirname(HERE))
+TOOLS = os.path.join(TREE, "tools")
+BUILD = os.path.join(TREE, "llvm", "build", "test")
+PLUGIN = os.path.join(BUILD, "tv-llvm.so")
+WRONG = os.path.join(BUILD, "wrong-passes.so")
+PAIRS = os.path.join(HERE, "rules.ll")
+STRANGE = os.path.join(HERE, "strange.ll")
+CODE = os.path.join(TREE, "bench", "pairs.c")
+OPT, CLANG = "opt-19", "clang-19"
+POSITION = re.compile(r" \d+:\d+")
+
+SUM = """define i8 @sum(i8 %x, i8 %y) {
+  %s = add i8 %x, %y
+  ret i8 %s
+}
+define i8 @other(i8 %x) {
+  %s = add i8 %x, 1
+  ret i8 %s
+}
+"""
+STORES = """define void @stores(ptr %p, ptr %q) {
+  store i8 1, ptr %p
+  store i8 2, ptr %q
+  ret void
+}
+"""
+
+
+class Bench:
+    """A folder in which opt and clang are run with the plugin."""
+
+    def __init__(self, folder, tv):
+        self.folder, self.tv = folder, tv
+        kept = {name: value for name, value in os.environ.items() if not name.startswith("TV")}
+        self.variables = {**kept, "TV": tv, "TV_LLVM": PLUGIN}
+
+    def run(self, *command, data="", **variables):
+        return subprocess.run(command, cwd=self.folder, input=data, text=True,
+                              capture_output=True, env={**self.variables, **variables},
+                              timeout=600)
+
+    def opt(self, text, passes, *args, **variables):
+        """opt with both plugins and -tv on a module's text."""
+        return self.run(OPT, f"-load-pass-plugin={PLUGIN}", f"-load-pass-plugin={WRONG}", "-tv",
+                        *args, f"-passes={passes}", "-S", "-o", "-", "-", data=text, **variables)
+
+    def path(self, name):
+        return os.path.join(self.folder, name)
+
+    def write(self, name, text):
+        with open(self.path(name), "w") as file:
+            file.write(text)
+        return self.path(name)
+
+    def program(self, name, body):
+        path = self.write(name, "#!/bin/sh\n" + body)
+        os.chmod(path, os.stat(path).st_mode | stat.S_IXUSR)
+        return path
+
+    def bytes_of(self, name):
+        with open(self.path(name), "rb") as file:
+            return file.read()
+
+
+def equal(found, wanted, what):
+    if found != wanted:
+        raise AssertionError(f"{what}: found {found!r}, wanted {wanted!r}")
+
+
+def within(part, whole, what):
+    if part not in whole:
+        raise AssertionError(f"{what}: {part!r} is not in {whole!r}")
+
+
+# Rules.
+
+def pairs_have_their_rows(bench):
+    """Each pair of rules.ll has the row of the comment before it."""
+    wanted = wanted_rows()
+    found = {name: row for name, row in rows_of(bench, PAIRS)}
+    equal(set(found), set(wanted), "the pairs")
+    for name, row in wanted.items():
+        equal(found[name], row, f"the row of {name}")
+
+
+def pairs_are_the_same_backwards(bench):
+    """What a pair's kind is, it is also with source and target exchanged."""
+    with open(PAIRS) as file:
+        text = re.sub(r"@(src|tgt)\.",
+                      lambda found: "@tgt." if found.group(1) == "src" else "@src.", file.read())
+    found = dict(rows_of(bench, bench.write("back.ll", text)))
+    for name, row in wanted_rows().items():
+        if not row.startswith("refused"):
+            equal(found[name].split()[0], row.split()[0], f"the kind of {name} backwards")
+
+
+def wanted_rows():
+    with open(PAIRS) as file:
+        found = re.findall(r"^; (.*)\ndefine .*@src\.(\w+)\(", file.read(), re.M)
+    return {name: row for row, name in found}
+
+
+def rows_of(bench, path):
+    """Names and rows, without positions, of what `tv-check --lower` says of a file."""
+    done = bench.run(os.path.join(TOOLS, "tv-check"), "--lower", "--no-trace", path)
+    for line in done.stdout.splitlines():
+        found = re.match(r"@src\.(\w+) (.*)", line)
+        if found:
+            yield found.group(1), POSITION.sub("", found.group(2))
+
+
+def same_row_in_both(bench):
+    """The pass by -tv and two modules by tv-check --lower have the same rows. What the source has
+    too is marked, but for what is the caller's."""
+    text = STORES.replace("ptr %p", "ptr noalias align 2 %p", 1)
+    before = bench.write("before.ll", text)
+    seen = bench.opt(text, "wrong-alias")
+    after = bench.write("after.ll", seen.stdout)
+    row = "@stores correct by align, noalias; fault may hide: arg0:noalias, arg1:noalias\n"
+    within(row, bench.run(os.path.join(TOOLS, "tv-check"), "--lower", before, after).stdout,
+           "tv-check")
+    within(row, seen.stderr, "-tv")
+    wrong = bench.opt(text.replace("i8 2", "i8 0").replace("  ret", "  %s = add i8 1, 2\n"
+                                   "  store i8 %s, ptr %q\n  ret"), "wrong-sub")
+    within("@stores incorrect by align, noalias; false alarm possible: arg0:align(2), "
+           "arg0:noalias\n", wrong.stderr, "-tv of a wrong pass")
+
+
+def layouts(bench):
+    """A layout that tv doesn't read hinders only functions with memory."""
+    layout = 'target datalayout = "E-p:32:32"\n'
+    for text, memory in ((SUM, ""), (SUM + STORES.replace("i8 2", "i8 3"), "refused")):
+        before = bench.write("before.ll", layout + text)
+        seen = bench.opt(layout + text, "wrong-sub,wrong-alias")
+        within("tv: SubtractPass @sum incorrect by layout\n", seen.stderr, "-tv")
+        after = bench.write("after.ll", seen.stdout)
+        done = bench.run(os.path.join(TOOLS, "tv-check"), "--lower", "--no-trace", before, after)
+        within("@sum incorrect by layout\n", done.stdout, "tv-check")
+        if memory:
+            within("@stores refused source data-layout", done.stdout, "the row of the stores")
+            within("AliasPass @stores refused source data-layout", seen.stderr, "the row")
+
+
+def integers(bench):
+    tested = rules.Bench(OPT, PLUGIN, bench.tv)
+    say = (lambda text: print(text, flush=True)) if "-v" in sys.argv else lambda text: None
+    print("rules:", rules.tested(tested, bench.folder, "--whole" in sys.argv, say))
+
+
+def lowered_alone(bench):
+    done = bench.run(OPT, f"-load-pass-plugin={PLUGIN}", "-passes=tv-lower", "-S", "-o", "-",
+                     STRANGE)
+    equal(done.returncode, 0, "the status of tv-lower")
+    again = bench.run(OPT, f"-load-pass-plugin={PLUGIN}", "-passes=tv-lower,verify", "-S", "-o",
+                      "-", "-", data=done.stdout)
+    equal(again.returncode, 0, "the status of tv-lower on what it wrote")
+
+
+# What is seen.
+
+def wrong_pass_is_found(bench):
+    done = bench.opt(SUM, "instcombine,wrong-sub,gvn")
+    equal(done.returncode, 0, "the status")
+    within("tv: SubtractPass @sum incorrect\n  arg 0 = 0\n  arg 1 = 1\n", done.stderr, "the row")
+    within("tv: correct 0 incorrect 2 unknown 0 refused 0 signature 0\n", done.stderr, "counts")
+
+
+def flags_alone_are_seen(bench):
+    """A pass that changes flags alone, and says that it changes nothing."""
+    done = bench.opt(SUM, "wrong-flag")
+    within("tv: FlagPass @sum incorrect", done.stderr, "the row")
+
+
+def module_pass_is_seen(bench):
+    text = SUM + "define internal i8 @unused() {\n  ret i8 0\n}\ndefine i8 @0(i8 %x) {\n" \
+                 "  %s = add i8 %x, %x\n  ret i8 %s\n}\n"
+    done = bench.opt(text, "wrong-module")
+    within("tv: WholePass @sum incorrect", done.stderr, "the row")
+    within("tv: WholePass @unnamed incorrect", done.stderr, "the row without a name")
+    equal("@unused" in done.stderr, False, "a row of a function that is gone")
+
+
+def only_named_functions(bench):
+    done = bench.opt(SUM, "wrong-sub", "-tv-functions=o*,none")
+    within("@other incorrect", done.stderr, "the row")
+    equal("@sum" in done.stderr, False, "a row of another function")
+
+
+def exits_on_error(bench):
+    done = bench.run(OPT, f"-load-pass-plugin={PLUGIN}", f"-load-pass-plugin={WRONG}", "-tv",
+                     "-tv-exit-on-error", "-tv-report=rows", "-passes=wrong-sub", "-o", "out.bc",
+                     "-", data=SUM)
+    equal(done.returncode, 1, "the status")
+    within("tv: @sum incorrect after SubtractPass", done.stderr, "what it says")
+    equal(os.path.exists(bench.path("out.bc")), False, "an output")
+    equal(bench.run(os.path.join(TOOLS, "tv-baseline"), "none", "rows").returncode, 1, "baseline")
+
+
+def report_is_read_by_baseline(bench):
+    for _ in range(2):
+        bench.opt(SUM, "wrong-sub", "-tv-report=rows", "-tv-functions=other", TV=bench.program(
+            "refuses", "echo 'tv 1'; echo '@other unknown weight'; echo 'correct 0'; exit 2"))
+    with open(bench.path("rows")) as file:
+        lines = [json.loads(line) for line in file]
+    equal([line["kind"] for line in lines], ["unknown", "end"] * 2, "the lines")
+    equal(lines[0]["pass"], "SubtractPass", "the pass")
+    done = bench.run(os.path.join(TOOLS, "tv-baseline"), "list", "rows")
+    within("new: <stdin> SubtractPass @other unknown weight", done.stdout, "what is new")
+    done = bench.run(os.path.join(TOOLS, "tv-baseline"), "list", "rows", "--write")
+    equal(done.returncode, 0, "with the list")
+    with open(bench.path("rows"), "a") as file:
+        file.write(json.dumps(lines[0]) + "\n")
+    done = bench.run(os.path.join(TOOLS, "tv-baseline"), "list", "rows")
+    equal(done.returncode, 2, "a report that was cut")
+
+
+def pairs_are_kept(bench):
+    bench.opt(SUM, "wrong-sub", "-tv-keep=kept", "-tv-functions=sum")
+    equal(sorted(os.listdir(bench.path("kept"))),
+          ["1-sum-SubtractPass.after.ll", "1-sum-SubtractPass.before.ll"], "the files")
+    done = bench.run(bench.tv, "check", "kept/1-sum-SubtractPass.before.ll",
+                     "kept/1-sum-SubtractPass.after.ll")
+    within("@sum incorrect", done.stdout, "the kept pair")
+
+
+# A tv that fails.
+
+def slow_pair(bench):
+    slow = bench.program("slow", "sleep 60 & wait\n")
+    begun = time.monotonic()
+    done = bench.opt(SUM, "wrong-sub", "-tv-seconds=0.3", TV=slow)
+    within("tv: SubtractPass @sum unknown time", done.stderr, "the row")
+    equal((done.returncode, time.monotonic() - begun < 20), (0, True), "status and time")
+
+
+def failing_tv(bench):
+    for body, row in (("exit 8", "failed status 8"), ("kill -9 $$", "failed status 137"),
+                      ("exit 0", "failed no row"), ("echo nonsense", "failed no row"),
+                      ("yes | head -c 3000000; exit 0", "failed no row")):
+        done = bench.opt(SUM, "wrong-sub", TV=bench.program("fails", body + "\n"))
+        within(f"tv: SubtractPass @sum {row}", done.stderr, body)
+        equal(done.returncode, 0, f"the status after {body}")
+
+
+def missing_tv(bench):
+    done = bench.opt(SUM, "wrong-sub", TV="/none")
+    equal(done.returncode, 127, "the status")
+    within("TV=/none: no such program", done.stderr, "what it says")
+    done = bench.opt(SUM, "wrong-sub", "-tv-program=" + bench.tv, TV="/none")
+    equal(done.returncode, 0, "the status with -tv-program")
+
+
+# Nothing changes.
+
+def same_bytes(bench):
+    """opt's and clang's output with the plugin and without."""
+    for passes in ("instcombine", "default<O2>", "default<O0>"):
+        for source, more in ((PAIRS, []), (STRANGE, []), (module_with_debug(bench), [])):
+            common = [f"-passes={passes}", "-preserve-bc-uselistorder", source]
+            plain = bench.run(OPT, *common, "-o", "plain.bc")
+            seen = bench.run(OPT, f"-load-pass-plugin={PLUGIN}", "-tv", "-tv-seconds=0.5",
+                             "-tv-quiet", "-tv-functions=*a*", *common, "-o", "seen.bc")
+            equal((plain.returncode, seen.returncode), (0, 0), f"statuses of {passes} {source}")
+            equal(bench.bytes_of("plain.bc") == bench.bytes_of("seen.bc"), True,
+                  f"the bytes after {passes} of {source}")
+
+
+def module_with_debug(bench):
+    path = bench.path("debug.ll")
+    if not os.path.exists(path):
+        bench.run(CLANG, "-O1", "-g", "-Xclang", "-disable-llvm-passes", "-S", "-emit-llvm", CODE,
+                  "-o", path)
+    return path
+
+
+def clang_by_variable(bench):
+    bench.write("code.c", "int f(int x) { return x * 2 / 2; }\n"
+                          "int g(int *p) { *p = 3; return *p; }\n")
+    for level in ("-O2", "-O0"):
+        plain = bench.run(CLANG, level, "-g", "-c", "code.c", "-o", "plain.o")
+        seen = bench.run(CLANG, level, "-g", f"-fpass-plugin={PLUGIN}", "-c", "code.c", "-o",
+                         "seen.o", TV_PLUGIN="-tv -tv-seconds=5 '-tv-functions=f,g'")
+        equal((plain.returncode, seen.returncode), (0, 0), "the statuses")
+        equal(bench.bytes_of("plain.o") == bench.bytes_of("seen.o"), True, "the object")
+        if level == "-O2":
+            within("tv: instcombine @f correct", seen.stderr, "the rows")
+    for words, said in (("-tv-secs=2", "unknown option '-tv-secs=2'"),
+                        ("-O3", "no option of tv: '-O3'"), ("-tv-report", "a value is missing"),
+                        ("-tv-seconds=x", "a wrong value")):
+        done = bench.run(CLANG, "-O1", f"-fpass-plugin={PLUGIN}", "-c", "code.c", "-o", "x.o",
+                         TV_PLUGIN=words)
+        within(said, done.stderr, words)
+        equal(done.returncode != 0, True, f"a failure with {words}")
+
+
+def strange_code(bench):
+    """What no rule is for is refused, and nothing crashes."""
+    with open(STRANGE) as file:
+        text = file.read()
+    done = bench.opt(text, "function(wrong-sub,wrong-alias),default<O1>", "-tv-seconds=0.5")
+    equal(done.returncode, 0, "the status")
+    within("refused source Unsupported", done.stderr, "a refusal")
+    equal("failed" in done.stderr, False, "a failed row")
+
+
+CASES = [pairs_have_their_rows, pairs_are_the_same_backwards, same_row_in_both, lowered_alone,
+         layouts, wrong_pass_is_found, flags_alone_are_seen, module_pass_is_seen,
+         only_named_functions,
+         exits_on_error, report_is_read_by_baseline, pairs_are_kept, slow_pair, failing_tv,
+         missing_tv, same_bytes, clang_by_variable, strange_code, integers]
+
+
+def missing():
+    """What isn't installed, or an empty text."""
+    for name in ("cmake", "c++", OPT, CLANG, "llvm-config-19"):
+        if not shutil.which(name):
+            return f"{name} is not installed"
+    found = subprocess.run(["llvm-config-19", "--includedir"], capture_output=True, text=True)
+    if not os.path.exists(os.path.join(found.stdout.strip(), "llvm", "Passes", "PassPlugin.h")):
+        return "llvm-19-dev is not installed"
+    return "" if tv_program() else "tv is not built (crates/tv/out/tv), nor named by TV"
+
+
+def tv_program():
+    built = os.path.join(TREE, "crates", "tv", "out", "tv")
+    found = shutil.which(os.environ.get("TV") or built) or shutil.which("tv")
+    return os.path.abspath(found) if found else None
+
+
+def build():
+    source = os.path.join(TREE, "llvm")
+    for command in (["cmake", "-S", source, "-B", BUILD, "-DTV_LLVM_TESTS=ON"],
+                    ["cmake", "--build", BUILD]):
+        done = subprocess.run(command, capture_output=True, text=True)
+        if done.returncode:
+            said = done.stdout[-3000:] + done.stderr[-3000:]
+            raise SystemExit(f"the plugin does not build:\n{said}")
+
+
+def passes(case):
+    """Runs one case in a folder of its own."""
+    begun = time.monotonic()
+    with tempfile.TemporaryDirectory(prefix="test-plugin-") as folder:
+        try:
+            case(Bench(folder, tv_program()))
+        except (AssertionError, OSError, ValueError, LookupError,
+                subprocess.TimeoutExpired) as error:
+            print(f"failed: plugin, {case.__name__}: {type(error).__name__}: {error}", flush=True)
+            return False
+    if "-v" in sys.argv:
+        print(f"passed: plugin, {case.__name__} {time.monotonic() - begun:.1f} s", flush=True)
+    return True
+
+
+def main():
+    why = missing()
+    if why:
+        print(f"skipped: the plugin for LLVM: {why}")
+        return 0
+    build()
+    named = sys.argv[sys.argv.index("-k") + 1:] if "-k" in sys.argv else []
+    results = [passes(case) for case in CASES if not named or case.__name__ in named]
+    print(f"plugin: {results.count(True)} passed, {results.count(False)} failed")
+    return 1 if False in results else 0
+
+
+if __name__ == "__main__":
+    sys.exit(main())
