@@ -80,7 +80,7 @@ pub fn settle(
     requires in_range { AreInRange bounds.now budget.now }
     ensures { IfOk result (IsSettled pair.now bounds.now budget.now) }
 {
-    if budget.weight < weight(pair, bounds)? {
+    if budget.weight < weight(alloc, pair, bounds)? {
         return Ok(Settled {
             verdict: Verdict::Unknown(Cause::Weight),
             kept: Kept {

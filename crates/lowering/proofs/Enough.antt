@@ -23,7 +23,7 @@ use Rattle.lowering.specs.Lowered.{Writing, HasFewLeaves, scratch, computed, com
 
 -- ---- lists
 
-all-map : {X : Type 0} (P Q : X → Type 0) → ((x : X) → P x → Q x) → (xs : List X) → AllByRecursion P xs → AllByRecursion Q xs
+pub all-map : {X : Type 0} (P Q : X → Type 0) → ((x : X) → P x → Q x) → (xs : List X) → AllByRecursion P xs → AllByRecursion Q xs
 all-map P Q each [] all = tt
 all-map P Q each (x ∷ xs) all = (each x all.0, all-map P Q each xs all.1)
 
@@ -55,7 +55,7 @@ operands_counted f few n name counted =
     sum_splits (leaves_within n (insts_of f)) (leaf_count f) (no-more f n) (carried_by (insts_of f) name) (omega (arith, same, agree, most))
 
 -- in no step nothing is counted
-carries-not : (f : Function) (o : Operand) → IsCounted f zero o → carries f o ≡ false
+pub carries-not : (f : Function) (o : Operand) → IsCounted f zero o → carries f o ≡ false
 unfolding leaves_within
 carries-not f o counted = let none : 0 ≡ leaf_count f o = counted in ap (nat_lt 0) (sym none)
 

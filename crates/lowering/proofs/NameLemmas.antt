@@ -78,7 +78,7 @@ longest-append [] name = omega arith
 longest-append (x ∷ names) name = rw (longest-append names name) (omega arith)
 
 -- a word more
-pub words_more : (count left bytes : ℕ) → left ≡ count + 1 → words_from left bytes ≡ Word (replicate bytes 0) ∷ words_from count (bytes + 1)
+pub words_more : (count left bytes : ℕ) → left ≡ count + 1 → words_from left bytes ≡ Word (replicate bytes 117) ∷ words_from count (bytes + 1)
 unfolding words_from
 words_more count left bytes e = rw (e, add-one count) refl
 
@@ -107,27 +107,27 @@ unfolding most_leaves
 most_more f name = rw (add-one name) refl
 
 -- one more word, after those that are there
-words_step : (names more whole : List Name) (left less bytes : ℕ) → left ≡ less + 1 → more ≡ names ++ Word (replicate bytes 0) ∷ [] → names ++ words_from left bytes ≡ whole → more ++ words_from less (bytes + 1) ≡ whole
+words_step : (names more whole : List Name) (left less bytes : ℕ) → left ≡ less + 1 → more ≡ names ++ Word (replicate bytes 117) ∷ [] → names ++ words_from left bytes ≡ whole → more ++ words_from less (bytes + 1) ≡ whole
 words_step names more whole left less bytes e is before =
     ap (λ (ns : List Name). ns ++ words_from less (bytes + 1)) is
-    ∙ (append_assoc names (Word (replicate bytes 0) ∷ []) (words_from less (bytes + 1))
+    ∙ (append_assoc names (Word (replicate bytes 117) ∷ []) (words_from less (bytes + 1))
     ∙ (ap (λ (ns : List Name). names ++ ns) (sym (words_more less left bytes e)) ∙ before))
 
-word_added : (names new : List Name) (bytes : List ℕ) (n : ℕ) → bytes ≡ replicate n 0 → longest names < n → new ≡ with_name names (Word bytes) → new ≡ names ++ Word (replicate n 0) ∷ []
-word_added names new bytes n zeros less is =
-    is ∙ (ap (λ (bs : List ℕ). with_name names (Word bs)) zeros ∙ with_longer names (replicate n 0) (let long = length-replicate {A = ℕ} n 0 in omega (arith, long, less)))
+word_added : (names new : List Name) (bytes : List ℕ) (n : ℕ) → bytes ≡ replicate n 117 → longest names < n → new ≡ with_name names (Word bytes) → new ≡ names ++ Word (replicate n 117) ∷ []
+word_added names new bytes n letters less is =
+    is ∙ (ap (λ (bs : List ℕ). with_name names (Word bs)) letters ∙ with_longer names (replicate n 117) (let long = length-replicate {A = ℕ} n 117 in omega (arith, long, less)))
 
-word_longer : (names new : List Name) (n : ℕ) → longest names < n → new ≡ names ++ Word (replicate n 0) ∷ [] → longest new < n + 1
-word_longer names new n less is = rw (is, longest-append names (Word (replicate n 0))) (let long = length-replicate {A = ℕ} n 0 in omega (arith, long, less))
+word_longer : (names new : List Name) (n : ℕ) → longest names < n → new ≡ names ++ Word (replicate n 117) ∷ [] → longest new < n + 1
+word_longer names new n less is = rw (is, longest-append names (Word (replicate n 117))) (let long = length-replicate {A = ℕ} n 117 in omega (arith, long, less))
 
 -- a table, after this many words from this length on have come to it, with those that are left
 pub record HasWords (whole names : List Name) (count first word : ℕ) : Type 0 where
   pub longer : longest names < first + word
   pub rest : names ++ words_from (count - word) (first + word) ≡ whole
 
-pub has_more : (whole names new : List Name) (bytes : List ℕ) (count first word : ℕ) → word < count → bytes ≡ replicate (first + word) 0 → new ≡ with_name names (Word bytes) → HasWords whole names count first word → HasWords whole new count first (word + 1)
-has_more whole names new bytes count first word below zeros is has =
-    let added = word_added names new bytes (first + word) zeros has.longer is in
+pub has_more : (whole names new : List Name) (bytes : List ℕ) (count first word : ℕ) → word < count → bytes ≡ replicate (first + word) 117 → new ≡ with_name names (Word bytes) → HasWords whole names count first word → HasWords whole new count first (word + 1)
+has_more whole names new bytes count first word below letters is has =
+    let added = word_added names new bytes (first + word) letters has.longer is in
     let longer = word_longer names new (first + word) has.longer added in
     let next : first + (word + 1) ≡ (first + word) + 1 = omega arith in
     record {

@@ -13,13 +13,10 @@ use Rattle.ir_tree.specs.declared.tree.Terminator.{Terminator}
 use Rattle.ir_tree.specs.declared.tree.Terminator.TheVariants.{Return, Branch, CondBranch, Switch, Unreachable}
 use Rattle.ir_tree.specs.declared.tree.Block.{Block}
 use Rattle.ir_tree.specs.declared.tree.Function.{Function}
-use Rattle.ir_tree.specs.Carrying.{carries, leaf_count}
+use Rattle.ir_tree.specs.Carrying.{carries}
 use Rattle.undef_uses.specs.Counts.{AreCounts}
 use Rattle.lowering.specs.Lowered.{carries_name, computed, insts_at_end, lowered, lowered_block, lowered_end, lowered_inst, makes_tree, most_leaves, sampled_insts, sampled_operand, scratch, stack_height, stack_names, words_from, longest}
-
--- no name has a leaf
-abbrev pub HasNoLeaves : Function → Type 0
-HasNoLeaves f = (name : ℕ) → leaf_count f (Local name) ≡ 0
+use Rattle.lowering.specs.Plan.{HasNoLeaves}
 
 local-not : (f : Function) → HasNoLeaves f → (name : ℕ) → carries f (Local name) ≡ false
 local-not f none name = ap (nat_lt 0) (none name)

@@ -138,10 +138,10 @@ unfoldable pub longest : List Name → ℕ
 longest [] = 0
 longest (name ∷ names) = max (spelling_length name) (longest names)
 
--- so many words, the first of this many bytes and each next one of one more
+-- so many words of letters u, the first of this many and each next one of one more
 unfoldable pub words_from : ℕ → ℕ → List Name
 words_from zero bytes = []
-words_from (suc count) bytes = word.Word (replicate bytes 0) ∷ words_from count (bytes + 1)
+words_from (suc count) bytes = word.Word (replicate bytes 117) ∷ words_from count (bytes + 1)
 
 -- they are longer than each name of the function
 abbrev pub stack_names : Function → List Name

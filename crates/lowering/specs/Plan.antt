@@ -1,6 +1,7 @@
 -- What the lowering of a function knows of it.
-use Rattle.std.specs.Prelude.{◌≡◌, ℕ, length}
-use Rattle.ir_tree.specs.Carrying.{insts_of}
+use Rattle.std.specs.Prelude.{◌≡◌, ℕ, length, Option, Some, None}
+use Rattle.ir_tree.specs.Carrying.{insts_of, leaf_count}
+use Rattle.ir_tree.specs.declared.tree.Operand.TheVariants.{Local}
 use Rattle.ir_tree.specs.declared.tree.TypedOperand.{TypedOperand}
 use Rattle.ir_tree.specs.declared.tree.Function.{Function}
 use Rattle.undef_uses.specs.Counts.{AreCounts}
@@ -17,3 +18,12 @@ pub record IsPlan (plan : Plan) : Type 0 where
 
 abbrev pub typed_placed : Function → ℕ → TypedOperand → TypedOperand
 typed_placed f height typed = record { of_type = typed.of_type; operand = placed f height typed.operand }
+
+-- no name has a leaf
+abbrev pub HasNoLeaves : Function → Type 0
+HasNoLeaves f = (name : ℕ) → leaf_count f (Local name) ≡ 0
+
+-- none where nothing is to be written out
+abbrev pub IsPlanOf : Function → Option Plan → Type 0
+IsPlanOf f None = HasNoLeaves f
+IsPlanOf f (Some plan) = (plan.f.now ≡ f) × IsPlan plan

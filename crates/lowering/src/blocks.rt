@@ -80,12 +80,13 @@ fn push_freeze(
     requires { IsPlan plan.now }
     ensures { OnOk result (insts.new ≡ insts.old ++ lowered_inst plan.now.f.now (Freeze into of_type operand)) }
 {
-    push_sampled(alloc, plan, insts, of_type, operand)?;
-    insts.push(Inst::Freeze {
+    let freeze = Inst::Freeze {
         into,
         of_type,
         operand: sampled_operand(plan, operand),
-    })
+    };
+    push_sampled(alloc, plan, insts, of_type, operand)?;
+    insts.push(freeze)
 }
 
 // Appends an instruction that stays where it is, unless its result carries undef.

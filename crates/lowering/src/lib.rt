@@ -20,3 +20,5 @@ mod stack_names;
 
 pub use laws::{accepted_can_be_lowered, samples_are_present};
 pub use lowered::lower;
+pub use operations::Operation;
+pub use plan::{Plan, plan_of};

@@ -1,14 +1,18 @@
 //! What the lowering of a function knows of it.
 
-ghost use Rattle.std.specs.Prelude.{◌≡◌, ◌+◌, ◌≤◌};
+ghost use Rattle.std.specs.Prelude.{◌≡◌, ◌↔◌, ◌+◌, ◌≤◌, EachIndex, IfOk, IsTrue, slice_index};
 ghost use Rattle.ir_tree.specs.declared.tree.Operand.TheVariants.{Local};
 ghost use Rattle.ir_tree.specs.Carrying.{carries, leaf_count};
-ghost use Rattle.lowering.specs.Lowered.{above, maker_of, placed, scratch};
+ghost use Rattle.ir_tree.specs.Sites.{AreNumbered};
+ghost use Rattle.lowering.specs.Lowered.{HasFewLeaves, above, maker_of, placed, scratch};
 ghost use Rattle.lowering.specs.Operations.{operation_of};
-ghost use Rattle.lowering.specs.Plan.{IsPlan, typed_placed};
+ghost use Rattle.lowering.specs.Plan.{IsPlan, IsPlanOf, typed_placed};
 
-use crate::operations::Operation;
+use crate::operations::{Operation, operations_of};
 use ir_tree::{Function, Operand, TypedOperand};
+use std::alloc::Global;
+use support::NoMemory;
+use undef_uses::leaf_counts;
 
 /// A function, and for each of its names how many leaves it has and which operation makes it.
 #[derive(Drop)]
@@ -97,4 +101,32 @@ impl<'f> Plan<'f> {
             height
         }
     }
+}
+
+/// What is known of a function, if one of its names carries undef.
+///
+/// # Errors
+/// Out of memory.
+pub fn plan_of(alloc: Global, f: &Function) -> Result<Option<Plan<'_>>, NoMemory>
+    requires numbered { AreNumbered f.now }
+    requires few { HasFewLeaves f.now }
+    ensures { IfOk result (IsPlanOf f.now) }
+{
+    let counts = leaf_counts(alloc, f)?;
+    if are_zero(&counts) {
+        return Ok(None);
+    }
+    let operations = operations_of(alloc, f)?;
+    Ok(Some(Plan {
+        f,
+        counts,
+        operations,
+    }))
+}
+
+// Whether each count is 0.
+fn are_zero(counts: &[u8]) -> bool
+    ensures { IsTrue result ↔ EachIndex counts.now (λ k. slice_index counts.now k ≡ 0) }
+{
+    counts.iter().all(|count| *count == 0)
 }

@@ -82,14 +82,14 @@ fn spelling_length(name: &Name) -> usize
     }
 }
 
-// Appends this many words, the first of this many bytes and each next one of one more.
+// Appends this many words of letters u, the first of this many and each next one of one more.
 fn push_words(alloc: Global, names: &mut Names, count: usize, first: usize) -> Result<(), NoMemory>
     requires longer { longest names.old < first }
     requires room { first + count < 2 ^ 64 }
     ensures { OnOk result (names.new ≡ names.old ++ words_from count first) }
 {
     for word in 0..count {
-        let bytes = vec![in alloc; 0u8; first + word]?;
+        let bytes = vec![in alloc; b'u'; first + word]?;
         names.number(Name::Word(Sequence::from_vec(bytes)))?;
     }
     Ok(())

@@ -22,11 +22,11 @@ use Rattle.std.proofs.lemmas.List.Elements.{recursion_from_All}
 use Rattle.ir_tree.specs.declared.tree.Phi.{Phi}
 use Rattle.ir_tree.specs.declared.tree.MemoryType.{MemoryType}
 use Rattle.ir_tree.specs.Types.{store_size, object_size}
-use Rattle.ir_tree.specs.Limits.{IsWithinLimits, instructions_of, cases_in, HasFewCases, HasFewEntries, HasSmallTypes, HasSmallObjects}
+use Rattle.ir_tree.specs.Limits.{IsWithinLimits, instructions_of, cases_in, HasSmallTypes, HasSmallObjects}
 use Rattle.points.specs.declared.point.Bounds.{Bounds}
 use Rattle.points.specs.Runnable.{IsRunnable}
 use Rattle.points.specs.Tapes.{inst_widths, end_widths, block_widths, choice_widths, widest}
-use Rattle.verdicts.specs.Weight.{type_width, op_cost, made_bytes, made_in, inst_cost, phi_cost, end_cost, block_cost}
+use Rattle.verdicts.specs.Weight.{type_width, op_cost, made_bytes, made_in, inst_cost, phi_cost, end_cost}
 use Rattle.points.proofs.Plain.{widest-append}
 use Rattle.pair_costs.specs.Small.{AreSmall}
 
@@ -61,10 +61,10 @@ sum_end f xs i e = rw (e, drop-length xs) refl
 square : (w : Width) → w.bits * w.bits ≤ 4096
 square w = let most = w.at_most_64 in let m : w.bits * w.bits ≤ 64 * w.bits = mul-le-mul_right w.bits most in omega (arith, m, most)
 
-plain_cost : (w : Width) → w.bits ≤ 4096
+pub plain_cost : (w : Width) → w.bits ≤ 4096
 plain_cost w = let most = w.at_most_64 in omega (arith, most)
 
-small_op : (op : Op) (w : Width) → op_cost op w.bits ≤ 4096
+pub small_op : (op : Op) (w : Width) → op_cost op w.bits ≤ 4096
 small_op (Add flags) w = plain_cost w
 small_op (Sub flags) w = plain_cost w
 small_op (Mul flags) w = square w
@@ -79,7 +79,7 @@ small_op And w = plain_cost w
 small_op (Or disjoint) w = plain_cost w
 small_op Xor w = plain_cost w
 
-small_width : (t : IrType) → type_width t ≤ 4096
+pub small_width : (t : IrType) → type_width t ≤ 4096
 small_width (type.Int width) = plain_cost width
 small_width type.Ptr = omega arith
 
@@ -120,7 +120,7 @@ small_made_by (GetElementPtr into inbounds nuw type base indices) small = omega 
 pub small_switch : (cases : ℕ) (w : Width) → cases ≤ 256 → cases * w.bits ≤ 16384
 small_switch cases w few = let most = w.at_most_64 in let m : cases * w.bits ≤ 256 * w.bits = mul-le-mul_right w.bits few in omega (arith, m, most)
 
-small_end : (end : Terminator) → cases_in end ≤ 256 → end_cost end ≤ 16385
+pub small_end : (end : Terminator) → cases_in end ≤ 256 → end_cost end ≤ 16385
 small_end (terminator.Return returned) few = omega arith
 small_end (terminator.Branch to) few = omega arith
 small_end (terminator.CondBranch condition if_true if_false) few = omega arith
@@ -165,23 +165,6 @@ small_made_insts insts types = sum_within_of HasSmallTypes made_bytes insts 64 (
 pub small_made_in : (b : Block) → HasSmallObjects b → made_in b ≤ 64 * size_of b
 small_made_in b objects = let insts = small_made_insts b.insts objects in omega (arith, insts)
 
-pub small_inst_costs : (memory : ℕ) (insts : List Inst) → memory ≤ 272629888 → All HasSmallTypes insts → sum_by (inst_cost memory) insts ≤ 2181039168 * length insts
-small_inst_costs memory insts few types = sum_within_of HasSmallTypes (inst_cost memory) insts 2181039168 (recursion_from_All HasSmallTypes insts types) (λ inst small. small_cost memory inst few small)
-
-pub small_block_cost : (memory : ℕ) (b : Block) → memory ≤ 272629888 → HasFewCases b → HasFewEntries b → HasSmallObjects b → block_cost memory b ≤ 2181039168 * size_of b
-small_block_cost memory b few cases entries objects =
-    let phis = small_phis b.phis (recursion_from_All FewEntries b.phis entries) in
-    let insts = small_inst_costs memory b.insts few objects in
-    let end = small_end b.terminator cases in
-    omega (arith, phis, insts, end)
-
-small_costs : (memory : ℕ) (bs : List Block) → memory ≤ 272629888 → AllByRecursion HasFewCases bs → AllByRecursion HasFewEntries bs → AllByRecursion HasSmallObjects bs → sum_by (block_cost memory) bs ≤ 2181039168 * sum_by size_of bs
-small_costs memory [] few cases entries objects = omega arith
-small_costs memory (b ∷ bs) few cases entries objects =
-    let rest = small_costs memory bs few cases.1 entries.1 objects.1 in
-    let first = small_block_cost memory b few cases.0 entries.0 objects.0 in
-    rw (sum_by-cons (block_cost memory) b bs, sum_by-cons size_of b bs) (omega (arith, rest, first))
-
 -- ---- one function
 
 pub words_in_is : (f : Function) → length (choice_widths f) ≡ sum_by block_words f.blocks
@@ -195,12 +178,6 @@ small_made f limits =
 
 pub small_given : (bounds : Bounds) → AreSmall bounds → bounds.blocks * bounds.bytes ≤ 128
 small_given bounds small = let m : bounds.blocks * bounds.bytes ≤ 4 * bounds.bytes = mul-le-mul_right bounds.bytes small.blocks in let most = small.bytes in omega (arith, m, most)
-
-pub small_cost_of : (memory : ℕ) (f : Function) → memory ≤ 272629888 → IsWithinLimits f → sum_by (block_cost memory) f.blocks ≤ 142936582914048
-small_cost_of memory f few limits =
-    let cost = small_costs memory f.blocks few (recursion_from_All HasFewCases f.blocks limits.cases) (recursion_from_All HasFewEntries f.blocks limits.entries) (recursion_from_All HasSmallObjects f.blocks limits.objects) in
-    let most = limits.instructions in
-    omega (arith, cost, most)
 
 -- ---- the widest choice, in a loop
 

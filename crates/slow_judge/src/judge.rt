@@ -121,7 +121,7 @@ pub fn slow(
     requires in_range { AreInRange bounds.now budget.now }
     ensures { IfOk result (IsVerdict pair.now bounds.now budget.now) }
 {
-    if budget.weight < weight(pair, bounds)? {
+    if budget.weight < weight(alloc, pair, bounds)? {
         return Ok(Verdict::Unknown(Cause::Weight));
     }
     found(alloc, pair, bounds, budget)

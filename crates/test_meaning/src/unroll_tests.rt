@@ -172,13 +172,13 @@ type Measures = (u64, [u64; 2], [u32; 2]);
 
 /// What the pair of a module measures.
 #[tactic(auto, using(points::proofs::Runnable::runnable))]
-fn measured(module: &Module) -> Option<Measures>
+fn measured(alloc: Global, module: &Module) -> Option<Measures>
     requires { AllByRecursion IsJudgeableEntry module.now.entries }
 {
     let pair = pair_in(module)?;
     let (source, target) = (pair.source(), pair.target());
     Some((
-        weight(&pair, &BOUNDS).ok()?,
+        weight(alloc, &pair, &BOUNDS).ok()?,
         [need(source, 4).ok()?, need(target, 4).ok()?],
         [widest_of(source).bits(), widest_of(target).bits()],
     ))
@@ -194,7 +194,7 @@ fn a_pair_weighs_the_bits_of_its_results(rt: HostRuntime) -> Result<(), Fail> {
         .ok_or("a module")?;
     let expected = (5 * (4 + 8 + 1 + 8 + 1), [5, 0], [4, 1]);
     expect(
-        measured(&module) == Some(expected),
+        measured(rt.alloc(), &module) == Some(expected),
         "a pair weighs the bits of its results",
     )
 }

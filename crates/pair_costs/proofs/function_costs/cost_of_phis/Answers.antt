@@ -2,7 +2,7 @@ use Rattle.std.proofs.Common.{arith}
 use Rattle.std.proofs.lemmas.List.Elements.{recursion_from_All}
 use Rattle.verdicts.specs.Weight.{phi_cost}
 use Rattle.pair_costs.proofs.Sizes.{sum_room, small_phis, FewEntries}
-use Rattle.pair_costs.proofs.costs.cost_of_phis.Goals as goal
+use Rattle.pair_costs.proofs.function_costs.cost_of_phis.Goals as goal
 
 pub overflow_add-total : goal.overflow_add-total
 overflow_add-total c =
