@@ -1,5 +1,5 @@
 -- An incorrect row can be explained: its pair may be run, and no run of the source allows what the target does.
-use Rattle.std.proofs.Common.{◌≡◌, ◌⊎◌, List, [], ◌∷◌, Bool, true, false, true≢false, Option, Some, None, Result, Ok, Err, refl, sym, ap, subst, inl, inr, if◌then◌else◌}
+use Rattle.std.proofs.Common.{◌≡◌, ◌⊎◌, List, [], ◌∷◌, Bool, true, false, true≢false, Option, Some, None, Result, Ok, Err, refl, sym, ap, subst, ◌∙◌, inl, inr, if◌then◌else◌}
 use Rattle.std.specs.List.{AllByRecursion}
 use Rattle.ir_tree.specs.declared.tree.Function.{Function}
 use Rattle.ir_tree.specs.declared.module.Refused.{Refused}
@@ -13,9 +13,9 @@ use Rattle.points.specs.Run.{run_of}
 use Rattle.verdicts.specs.declared.verdict.Verdict.{Verdict}
 use Rattle.verdicts.specs.declared.verdict.Verdict.TheVariants as verdict
 use Rattle.verdicts.specs.Pair.{Functions, run_pair, same_signature}
-use Rattle.verdicts.specs.Covers.{covers}
-use Rattle.verdicts.specs.Laws.{IncorrectFails}
+use Rattle.verdicts.specs.Laws.{AreAccepted, IsAccepted, IncorrectFails}
 use Rattle.verdicts.specs.Trail.{IsVerdict}
+use Rattle.verdicts.proofs.Sampled.{same_allows}
 use Rattle.pair_judge.specs.Laws.{IsSpentAnswer, MayBeTold}
 use Rattle.report.specs.declared.row.Finding.{Finding}
 use Rattle.report.specs.declared.row.Finding.TheVariants as finding
@@ -35,10 +35,12 @@ verdict_of : (pair : Functions) (bounds : Bounds) (budget : Budget) (p : Point) 
 verdict_of pair bounds budget p (inl is) = is
 verdict_of pair bounds budget p (inr spent) = absurd (let e = spent.is in cc e)
 
-fails_at : IncorrectFails → (pair : Functions) (bounds : Bounds) (budget : Budget) (p : Point) → IsVerdict pair bounds budget (verdict.Incorrect p)
+accepted : (f : Function) → IsJudgeable f → IsAccepted f
+accepted f known = record { numbered = known.numbered; well_formed = known.well_formed; undefs = known.undefs }
+
+fails_at : IncorrectFails → (pair : Functions) (bounds : Bounds) (budget : Budget) (p : Point) → AreAccepted pair → IsVerdict pair bounds budget (verdict.Incorrect p)
     → is_refined (run_of (run_pair pair).source bounds p.input []).outcome (run_of (run_pair pair).target bounds p.input p.tape).outcome ≡ false
-unfolding covers
-fails_at law pair bounds budget p is = (law pair bounds budget p is).none []
+fails_at law pair bounds budget p are is = same_allows pair are bounds p.input [] p.tape ∙ (law pair bounds budget p are is).none []
 
 one_listed : (a : Functions) (pair : Option Functions) (P : Option Functions → Type 0) → a ∷ [] ≡ listed pair → P (Some a) → P pair
 one_listed a None P e h = absurd (cc e)
@@ -50,7 +52,7 @@ module _ (law : IncorrectFails) (bounds : Bounds) (budget : Budget) where
   pair_explained f g p source target told = record {
     source_runs = judgeable_lowered f source;
     target_runs = judgeable_lowered g target;
-    fails = fails_at law (record { source = f; target = g }) bounds budget p (verdict_of (record { source = f; target = g }) bounds budget p told);
+    fails = fails_at law (record { source = f; target = g }) bounds budget p (record { source = accepted f source; target = accepted g target }) (verdict_of (record { source = f; target = g }) bounds budget p told);
   }
 
   compared_explained : (f g : Function) (same : Bool) (found : Finding) (pair : Option Functions) → IsJudgeable f → IsJudgeable g

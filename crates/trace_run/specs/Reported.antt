@@ -7,7 +7,7 @@ use Rattle.points.specs.declared.point.Budget.{Budget}
 use Rattle.points.specs.declared.point.Point.{Point}
 use Rattle.verdicts.specs.declared.verdict.Shown.{Shown}
 use Rattle.verdicts.specs.Laws.{IsWithin}
-use Rattle.verdicts.specs.Pair.{Functions, run_pair}
+use Rattle.verdicts.specs.Pair.{Functions}
 use Rattle.verdicts.specs.Shown.{IsShown}
 use Rattle.report.specs.declared.row.Finding.TheVariants as finding
 use Rattle.report.specs.declared.row.Row.{Row}
@@ -43,7 +43,7 @@ pub record IsShownBy (report : List ℕ) (bounds : Bounds) (targets : List Entry
   pub runs : List ℕ
   -- the pair that is judged for such a row
   pub is_pair : pairs_in source.function (function_named targets source.name) ≡ listed (Some pair)
-  pub within : IsWithin (run_pair pair) bounds point.input
+  pub within : IsWithin pair bounds point.input
   pub shows : ShowsPoint pair bounds point source.name row
   pub has_row : HasRow report (row_text row)
   pub are_runs : AreRuns pair bounds point runs

@@ -6,7 +6,6 @@ ghost use Rattle.ir_tree.specs.Names.{same_name};
 ghost use Rattle.ir_reader.specs.Judgeable.{IsJudgeableEntry};
 ghost use Rattle.lowering.specs.Lowered.{CanBeLowered};
 ghost use Rattle.verdicts.specs.Laws.{IsWithin};
-ghost use Rattle.verdicts.specs.Pair.{run_pair};
 ghost use Rattle.module_rows.specs.Searching.{entry_names};
 ghost use Rattle.trace_run.specs.Reported.{IsShownAt, IsShownBy, ShowsPoint};
 
@@ -37,7 +36,7 @@ fn point_of(
     pair: &Pair<'_>,
     bounds: &Bounds,
 ) -> Result<Option<Point>, NoMemory>
-    ensures { IfOk result (λ found. IfSome found (λ point. IsWithin (run_pair pair.now) bounds.now point.input)) }
+    ensures { IfOk result (λ found. IfSome found (λ point. IsWithin pair.now bounds.now point.input)) }
 {
     let layout = Layout {
         blocks: bounds.blocks,

@@ -1,17 +1,21 @@
 -- The rows of two modules are sound.
-use Rattle.tv_run.proofs.Common.{◌≡◌, ◌≤◌, ◌⊎◌, ◌+◌, ◌||◌, ℕ, zero, suc, arith, Bool, true, false, true≢false, cond, List, [], ◌∷◌, Option, Some, None, Result, Ok, Err, refl, sym, ap, subst, ◌∙◌, inl, inr, is_some, if◌then◌else◌, count_by, IsDistinct, AllByRecursion, ltb-false, All-contains_itself, All-weaker, Contains-append_cases, Contains-append_left, Contains-append_right, Name, Number, Word, Function, Refused, Entry, Module, IsModule, Bounds, Budget, Point, Shown, Verdict, Functions, same_signature, Finding, Row, function_named, IsJudged, IsCompared, IsFinding, IsRow, AreSourceRows, AreRows, extra_row, extra_rows, has_some, is_of_class, status_of, FileReportsAreSound, ReportsAreSound, may_answer, entry_names, HasDistinctNames, HasFunction, HoldsThroughout, IsPairNamed, IsRefined, HasVerdict, IsSound}
+use Rattle.tv_run.proofs.Common.{◌≡◌, ◌≤◌, ◌⊎◌, ◌+◌, ◌||◌, ℕ, zero, suc, arith, Bool, true, false, true≢false, cond, List, [], ◌∷◌, Option, Some, None, Result, Ok, Err, refl, sym, ap, subst, ◌∙◌, inl, inr, is_some, if◌then◌else◌, count_by, IsDistinct, AllByRecursion, ltb-false, All-contains_itself, All-weaker, Contains-append_cases, Contains-append_left, Contains-append_right, Name, Number, Word, Function, Refused, Entry, Module, IsModule, Bounds, Budget, Point, Shown, Verdict, Functions, same_signature, Finding, Row, function_named, IsJudged, IsCompared, IsFinding, IsRow, AreSourceRows, AreRows, extra_row, extra_rows, has_some, is_of_class, status_of, FileReportsAreSound, ReportsAreSound, may_answer, entry_names, HasFunction, HoldsThroughout, IsPairNamed, IsRefined, HasVerdict, IsSound}
 use Rattle.std.specs.Prelude.{Contains}
 use Rattle.std.proofs.lemmas.List.Sums.{sum_by-cons}
 use Rattle.std.proofs.lemmas.Map.Keys.{IsDistinct-head, IsDistinct-tail}
 use Rattle.std.proofs.lemmas.Slice.Eq.{bytes_eq-Decides}
 use Rattle.ir_tree.specs.Names.{same_name}
 use Rattle.ir_reader.proofs.Different.{different}
+use Rattle.ir_reader.proofs.Limits.{all-judgeable}
+use Rattle.ir_reader.specs.Judgeable.{IsJudgeable, IsJudgeableEntry}
 use Rattle.verdicts.specs.declared.verdict.Verdict.TheVariants as verdict
-use Rattle.verdicts.specs.Laws.{Holds, IsCounterexample, CorrectHolds, IncorrectFails}
+use Rattle.verdicts.specs.Laws.{AreAccepted, IsAccepted, Holds, IsCounterexample, CorrectHolds, IncorrectFails}
 use Rattle.report.specs.declared.row.Finding.TheVariants as finding
 use Rattle.report.specs.declared.status.Class.{Class}
 use Rattle.report.specs.declared.status.Class.TheVariants as class
 use Rattle.module_rows.proofs.Searches.{same_name-flips}
+use Rattle.tv_run.specs.Answers.{IsJudgeableModule}
+use Rattle.tv_run.proofs.Named.{names_read}
 
 -- ---- elements of a list
 
@@ -160,20 +164,42 @@ judged_row may bounds source target rows row are here has = go (Contains-append_
           judged = found.judged;
         }
 
+-- ---- what the reader accepts
+
+judgeable_entry : (es : List Entry) (e : Entry) → AllByRecursion IsJudgeableEntry es → Contains es e → IsJudgeableEntry e
+judgeable_entry [] e all here = absurd (no_element e here)
+judgeable_entry (x ∷ es) e all here = go (contains_cases x es e here) (judgeable_entry es e all.1)
+  where
+    go : (x ≡ e) ⊎ Contains es e → (Contains es e → IsJudgeableEntry e) → IsJudgeableEntry e
+    go (inl is) rest = subst IsJudgeableEntry is all.0
+    go (inr later) rest = rest later
+
+accepted_function : (m : Module) (name : Name) (f : Function) → AllByRecursion IsJudgeableEntry m.entries → HasFunction m name f → IsAccepted f
+accepted_function m name f all has =
+    let known = judgeable_entry m.entries has.entry all has.there f has.accepted in
+    record { numbered = known.numbered; well_formed = known.well_formed; undefs = known.undefs }
+
+accepted_pair : (source target : Module) (name : Name) (pair : Functions) → AllByRecursion IsJudgeableEntry source.entries → AllByRecursion IsJudgeableEntry target.entries
+    → IsPairNamed source target name pair → AreAccepted pair
+accepted_pair source target name pair all target_all named = record {
+  source = accepted_function source name pair.source all named.source_has;
+  target = accepted_function target name pair.target target_all named.target_has;
+}
+
 -- ---- what a verdict means
 
-correct_row : CorrectHolds → (bounds : Bounds) (budget : Budget) (pair : Functions) (found : Finding) → found ≡ finding.Correct → IsJudged (may_answer bounds budget) bounds pair found → Holds pair bounds
-correct_row holds bounds budget pair found is judged = go (subst (IsJudged (may_answer bounds budget) bounds pair) is judged)
+correct_row : CorrectHolds → (bounds : Bounds) (budget : Budget) (pair : Functions) (found : Finding) → AreAccepted pair → found ≡ finding.Correct → IsJudged (may_answer bounds budget) bounds pair found → Holds pair bounds
+correct_row holds bounds budget pair found accepted is judged = go (subst (IsJudged (may_answer bounds budget) bounds pair) is judged)
   where
     go : may_answer bounds budget pair verdict.Correct → Holds pair bounds
-    go (inl v) = holds pair bounds budget v
+    go (inl v) = holds pair bounds budget accepted v
     go (inr spent) = absurd (let e = spent.is in cc e)
 
-incorrect_row : IncorrectFails → (bounds : Bounds) (budget : Budget) (pair : Functions) (found : Finding) (p : Point) (shown : Shown) → found ≡ finding.Incorrect p shown → IsJudged (may_answer bounds budget) bounds pair found → IsCounterexample pair bounds p
-incorrect_row fails bounds budget pair found p shown is judged = let h = subst (IsJudged (may_answer bounds budget) bounds pair) is judged in go h.0
+incorrect_row : IncorrectFails → (bounds : Bounds) (budget : Budget) (pair : Functions) (found : Finding) (p : Point) (shown : Shown) → AreAccepted pair → found ≡ finding.Incorrect p shown → IsJudged (may_answer bounds budget) bounds pair found → IsCounterexample pair bounds p
+incorrect_row fails bounds budget pair found p shown accepted is judged = let h = subst (IsJudged (may_answer bounds budget) bounds pair) is judged in go h.0
   where
     go : may_answer bounds budget pair (verdict.Incorrect p) → IsCounterexample pair bounds p
-    go (inl v) = fails pair bounds budget p v
+    go (inl v) = fails pair bounds budget p accepted v
     go (inr spent) = absurd (let e = spent.is in cc e)
 
 -- ---- a name has one pair
@@ -279,7 +305,7 @@ extra_there sources (x ∷ ts) t none here = go (function_named sources x.name) 
     go None is (inl same) rest = subst (λ (y : Entry). Contains (extra_row x ∷ extra_rows sources ts) (extra_row y)) same (contains_first (extra_row x) (extra_rows sources ts))
     go None is (inr later) rest = contains_later (extra_row x) (extra_rows sources ts) (extra_row t) (rest later)
 
-module _ (holds : CorrectHolds) (bounds : Bounds) (budget : Budget) (source target : Module) (rows : List Row) (target_apart : HasDistinctNames target) (are : AreRows (may_answer bounds budget) bounds source target rows) (none : status_of rows ≡ 0) where
+module _ (holds : CorrectHolds) (bounds : Bounds) (budget : Budget) (source target : Module) (rows : List Row) (known : IsJudgeableModule source) (target_known : IsJudgeableModule target) (are : AreRows (may_answer bounds budget) bounds source target rows) (none : status_of rows ≡ 0) where
   source_refined : (entry : Entry) → Contains source.entries entry → IsRefined bounds source target (λ pair. pair.source) entry
   source_refined entry here =
       let of = row_for (may_answer bounds budget) bounds target.entries source.entries are.judged entry are.each here in
@@ -287,15 +313,16 @@ module _ (holds : CorrectHolds) (bounds : Bounds) (budget : Budget) (source targ
       let correct : of.0.finding ≡ finding.Correct = each_correct rows of.0 none among in
       let found = found_of (may_answer bounds budget) bounds entry.function (function_named target.entries entry.name) of.0.finding (has_verdict of.0.finding finding.Correct correct tt) of.2.found in
       let at = entry_named target.entries entry.name (Ok found.pair.target) found.target_is in
+      let named : IsPairNamed source target entry.name found.pair = record {
+        source_has = record { entry = entry; there = here; named = refl; accepted = found.source_is };
+        target_has = record { entry = at.entry; there = at.there; named = at.named; accepted = at.function_is };
+        signature = found.signature;
+      } in
       record {
         pair = found.pair;
-        named = record {
-          source_has = record { entry = entry; there = here; named = refl; accepted = found.source_is };
-          target_has = record { entry = at.entry; there = at.there; named = at.named; accepted = at.function_is };
-          signature = found.signature;
-        };
+        named = named;
         entry_is = found.source_is;
-        holds = correct_row holds bounds budget found.pair of.0.finding correct found.judged;
+        holds = correct_row holds bounds budget found.pair of.0.finding (accepted_pair source target entry.name found.pair known.judgeable target_known.judgeable named) correct found.judged;
       }
 
   target_refined : (entry : Entry) → Contains target.entries entry → IsRefined bounds source target (λ pair. pair.target) entry
@@ -313,7 +340,7 @@ module _ (holds : CorrectHolds) (bounds : Bounds) (budget : Budget) (source targ
           record {
             pair = of.pair;
             named = named;
-            entry_is = some_is entry.function (Ok of.pair.target) (sym (function_named-once target.entries entry target_apart here) ∙ function_at target entry.name of.pair.target target_apart named.target_has);
+            entry_is = some_is entry.function (Ok of.pair.target) (sym (function_named-once target.entries entry target_known.distinct here) ∙ function_at target entry.name of.pair.target target_known.distinct named.target_has);
             holds = of.holds;
           }
 
@@ -325,26 +352,30 @@ module _ (holds : CorrectHolds) (bounds : Bounds) (budget : Budget) (source targ
 
 -- ---- the theorem
 
-rows_are_sound : CorrectHolds → IncorrectFails → (bounds : Bounds) (budget : Budget) (source target : Module) (rows : List Row) → HasDistinctNames source → HasDistinctNames target → AreRows (may_answer bounds budget) bounds source target rows → IsSound bounds source target rows
-rows_are_sound holds fails bounds budget source target rows apart target_apart are = record {
+rows_are_sound : CorrectHolds → IncorrectFails → (bounds : Bounds) (budget : Budget) (source target : Module) (rows : List Row) → IsJudgeableModule source → IsJudgeableModule target → AreRows (may_answer bounds budget) bounds source target rows → IsSound bounds source target rows
+rows_are_sound holds fails bounds budget source target rows known target_known are = record {
   correct = λ row here is.
       let of = judged_row (may_answer bounds budget) bounds source target rows row are here (has_verdict row.finding finding.Correct is tt) in
-      (of.pair, of.named, correct_row holds bounds budget of.pair row.finding is of.judged);
+      (of.pair, of.named, correct_row holds bounds budget of.pair row.finding (accepted_pair source target row.name of.pair known.judgeable target_known.judgeable of.named) is of.judged);
   incorrect = λ row point shown here is.
       let of = judged_row (may_answer bounds budget) bounds source target rows row are here (has_verdict row.finding (finding.Incorrect point shown) is tt) in
-      (of.pair, of.named, incorrect_row fails bounds budget of.pair row.finding point shown is of.judged);
-  one = λ name pair other x y. pair_one source target name pair other apart target_apart x y;
-  whole = λ name pair named. pair_row (may_answer bounds budget) bounds source target rows name pair target_apart are named;
-  throughout = λ none. holds_throughout holds bounds budget source target rows target_apart are none;
+      (of.pair, of.named, incorrect_row fails bounds budget of.pair row.finding point shown (accepted_pair source target row.name of.pair known.judgeable target_known.judgeable of.named) is of.judged);
+  one = λ name pair other x y. pair_one source target name pair other known.distinct target_known.distinct x y;
+  whole = λ name pair named. pair_row (may_answer bounds budget) bounds source target rows name pair target_known.distinct are named;
+  throughout = λ none. holds_throughout holds bounds budget source target rows known target_known are none;
 }
 
 pub reports_are_sound : CorrectHolds → IncorrectFails → ReportsAreSound
-reports_are_sound holds fails bounds budget source target answers text status apart target_apart report =
-    rows_are_sound holds fails bounds budget source target report.rows apart target_apart report.are_rows
+reports_are_sound holds fails bounds budget source target answers text status known target_known report =
+    rows_are_sound holds fails bounds budget source target report.rows known target_known report.are_rows
 
--- a text that is a module has distinct names
-distinct : (text : List ℕ) (m : Module) → IsModule text m → HasDistinctNames m
-distinct text m formed = different formed.tokens _ formed.defines m.entries formed.cut formed.entries
+-- a text that is a module is one that the judge takes
+module_known : (text : List ℕ) (m : Module) → IsModule text m → IsJudgeableModule m
+module_known text m formed = record {
+  judgeable = all-judgeable formed.tokens formed.defines m.entries formed.entries;
+  distinct = different formed.tokens _ formed.defines m.entries formed.cut formed.entries;
+  named = names_read text m formed;
+}
 
 pub file_reports_are_sound : ReportsAreSound → FileReportsAreSound
 file_reports_are_sound sound files c answers text status report = record {
@@ -355,8 +386,8 @@ file_reports_are_sound sound files c answers text status report = record {
   rows = report.report.rows;
   sound =
       sound c.bounds c.budget report.source report.target answers text status
-      (distinct report.source_is.text report.source report.source_is.holds.1)
-      (distinct report.target_is.text report.target report.target_is.holds.1)
+      (module_known report.source_is.text report.source report.source_is.holds.1)
+      (module_known report.target_is.text report.target report.target_is.holds.1)
       report.report;
   text_is = report.report.text_is;
   status_is = report.report.status_is;

@@ -16,14 +16,15 @@ use Rattle.tv_cli.specs.Words.{Text, Check}
 use Rattle.tv_run.specs.Files.{HasModule}
 use Rattle.tv_run.specs.Logs.{IsVerifiedWhole, LogWritten}
 use Rattle.tv_run.specs.Reports.{Reports, HoldsProof, IsReport, IsDefinedReport, IsTheDefinedReport}
-use Rattle.tv_run.specs.Sound.{HasDistinctNames, IsSound, SaysRefinement}
+use Rattle.tv_run.specs.Answers.{IsJudgeableModule}
+use Rattle.tv_run.specs.Sound.{IsSound, SaysRefinement}
 use Rattle.tv_run.specs.Stops.{HasCause, stop_status}
 
--- the rows of a report are sound, where no two functions of a module have one name
+-- the rows of a report on two modules that the judge takes are sound
 abbrev pub ReportsAreSound : Type 0
 ReportsAreSound = (bounds : Bounds) (budget : Budget) (source target : Module)
     (answers : List Judged) (text : List ℕ) (status : ℕ)
-    → HasDistinctNames source → HasDistinctNames target
+    → IsJudgeableModule source → IsJudgeableModule target
     → (report : IsReport bounds budget source target answers text status)
     → IsSound bounds source target report.rows
 

@@ -2,7 +2,6 @@
 -- target's function refines the source's, a row `incorrect` gives a counterexample, each pair of
 -- functions has its row, and with status 0 each function of either module is in a pair that refines.
 use Rattle.std.specs.Prelude.{◌≡◌, ◌≤◌, ◌⊎◌, ℕ, true, All, List, Contains, Ok}
-use Rattle.std.specs.List.{IsDistinct}
 use Rattle.tv_io.specs.Files.{Files}
 use Rattle.tv_io.specs.State.{ShelfState, SinkState}
 use Rattle.tv_io.specs.Taken.{IsWritten, IsCutOff}
@@ -10,13 +9,11 @@ use Rattle.ir_tree.specs.declared.name.Name.{Name}
 use Rattle.ir_tree.specs.declared.tree.Function.{Function}
 use Rattle.ir_tree.specs.declared.module.Entry.{Entry}
 use Rattle.ir_tree.specs.declared.module.Module.{Module}
-use Rattle.ir_tree.specs.Names.{same_name}
 use Rattle.points.specs.declared.point.Bounds.{Bounds}
 use Rattle.points.specs.declared.point.Point.{Point}
 use Rattle.verdicts.specs.declared.verdict.Shown.{Shown}
 use Rattle.verdicts.specs.Pair.{Functions, same_signature}
 use Rattle.verdicts.specs.Laws.{Holds, IsCounterexample}
-use Rattle.module_rows.specs.Searching.{entry_names}
 use Rattle.report.specs.declared.row.Finding.{Finding}
 use Rattle.report.specs.declared.row.Finding.TheVariants as finding
 use Rattle.report.specs.declared.row.Row.{Row}
@@ -25,10 +22,6 @@ use Rattle.report.specs.Status.{status_of}
 use Rattle.tv_cli.specs.Words.{Check}
 use Rattle.tv_run.specs.Files.{HasModule}
 use Rattle.tv_run.specs.Stops.{IsNotPut}
-
--- no two functions of the module have one name
-abbrev pub HasDistinctNames : Module → Type 0
-HasDistinctNames m = IsDistinct same_name (entry_names m.entries)
 
 -- the module has this function under the name
 pub record HasFunction (m : Module) (name : Name) (f : Function) : Type 0 where

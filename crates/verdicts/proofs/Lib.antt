@@ -1,3 +1,4 @@
 pub mod Meaning
 pub mod One
 pub mod Placed
+pub mod Sampled

@@ -1,26 +1,32 @@
--- Correct gives that the refinement holds; incorrect gives a point that no tape covers.
+-- Correct gives that each run of the lowered target is covered; incorrect gives a point that no tape covers.
 use Rattle.std.proofs.Common.{◌≡◌, ℕ, inl, inr, List, [], ◌∷◌, ◌++◌, length, true, false, Option, Some, None, slice_get, sym, ap, ◌∙◌, arith, append_assoc, append-nil}
 use Rattle.std.specs.Prelude.{slice_index}
 use Rattle.std.proofs.lemmas.Bool.{or_cases, cases_order}
+use Rattle.lowering.specs.Lowered.{lowered}
 use Rattle.points.specs.declared.point.Bounds.{Bounds}
 use Rattle.points.specs.declared.point.Budget.{Budget}
 use Rattle.points.specs.declared.point.Input.{Input}
 use Rattle.points.specs.declared.point.Point.{Point}
 use Rattle.verdicts.specs.declared.verdict.Verdict.TheVariants.{Correct, Incorrect}
-use Rattle.verdicts.specs.Pair.{RunPair, run_pair}
+use Rattle.verdicts.specs.Pair.{Functions, RunPair, run_pair}
 use Rattle.points.specs.Refines.{is_refined}
 use Rattle.points.specs.Code.{WordsFit, number_of}
 use Rattle.points.specs.Run.{Run, run_of}
 use Rattle.points.specs.Tapes.{need_of, widest_choice, plain_form, HasPlainForm}
 use Rattle.verdicts.specs.Covers.{covers, some_covers, is_covered, shifted, HasNoCover}
 use Rattle.verdicts.specs.Trail.{IsPoint, IsLeastUncovered, AreAllCovered, TrailFrom, Ends}
-use Rattle.verdicts.specs.Laws.{IsAllowed, IsWithin, CorrectHolds, IncorrectFails, LeastCoversArePlain}
+use Rattle.verdicts.specs.Laws.{IsWithin, LeastCoversArePlain}
 use Rattle.points.proofs.Order.{number_of-same}
 use Rattle.points.proofs.Words.{WordsFit-digits, WordsFit-length}
 use Rattle.points.proofs.Plain.{tapes_have_plain_forms}
 use Rattle.points.proofs.Widest.{widest_small, widen}
 
 -- ---- covers and plain forms
+
+-- some run of the lowered source allows the lowered target's run
+pub record IsCovered (pair : RunPair) (bounds : Bounds) (input : Input) (tape : List ℕ) : Type 0 where
+  pub source_tape : List ℕ
+  pub refined : is_refined (run_of pair.source bounds input source_tape).outcome (run_of pair.target bounds input tape).outcome ≡ true
 
 covers_by_run : (pair : RunPair) (bounds : Bounds) (p : Point) (tape other : List ℕ) → run_of pair.source bounds p.input other ≡ run_of pair.source bounds p.input tape → covers pair bounds p other ≡ covers pair bounds p tape
 unfolding covers
@@ -31,20 +37,21 @@ pub plain_covers : (pair : RunPair) (bounds : Bounds) (p : Point) (tape : List �
 plain_covers pair bounds p tape = covers_by_run pair bounds p tape (plain_form (need_of bounds.turns pair.source) (run_of pair.source bounds p.input tape).taken) (tapes_have_plain_forms pair.source bounds p.input tape).same
 
 -- where some tape of a list covers, there is one
-covering_tape : (pair : RunPair) (bounds : Bounds) (p : Point) (tapes : List (List ℕ)) → some_covers pair bounds p tapes ≡ true → IsAllowed pair bounds p.input p.tape
+covering_tape : (pair : RunPair) (bounds : Bounds) (p : Point) (tapes : List (List ℕ)) → some_covers pair bounds p tapes ≡ true → IsCovered pair bounds p.input p.tape
 unfolding some_covers covers
 covering_tape pair bounds p [] h = absurd (cc)
 covering_tape pair bounds p (tape ∷ tapes) h =
-    elim (or_cases (is_refined (run_of pair.source bounds p.input tape).outcome (run_of pair.target bounds p.input p.tape).outcome) (some_covers pair bounds p tapes) h) as (λ _. IsAllowed pair bounds p.input p.tape) [
+    elim (or_cases (is_refined (run_of pair.source bounds p.input tape).outcome (run_of pair.target bounds p.input p.tape).outcome) (some_covers pair bounds p tapes) h) as (λ _. IsCovered pair bounds p.input p.tape) [
       | inl here ↦ record { source_tape = tape; refined = here }
       | inr later ↦ covering_tape pair bounds p tapes later
     ]
 
-pub covered_is_allowed : (pair : RunPair) (bounds : Bounds) (tapes : List (List ℕ)) (p : Point) → is_covered pair bounds tapes p ≡ true → IsAllowed pair bounds p.input p.tape
+pub covered_is_allowed : (pair : RunPair) (bounds : Bounds) (tapes : List (List ℕ)) (p : Point) → is_covered pair bounds tapes p ≡ true → IsCovered pair bounds p.input p.tape
 covered_is_allowed pair bounds tapes p h = covering_tape pair bounds p (shifted (need_of bounds.turns pair.source) p.tape ++ tapes) h
 
 -- the plain form of the target's tape is a point
-plain_point : (pair : RunPair) (bounds : Bounds) (input : Input) (tape : List ℕ) → IsWithin pair bounds input → HasPlainForm pair.target bounds input tape → IsPoint pair bounds (record { input = input; tape = plain_form (need_of bounds.turns pair.target) (run_of pair.target bounds input tape).taken })
+pub plain_point : (pair : Functions) (bounds : Bounds) (input : Input) (tape : List ℕ) → IsWithin pair bounds input → HasPlainForm (lowered pair.target) bounds input tape
+    → IsPoint (run_pair pair) bounds (record { input = input; tape = plain_form (need_of bounds.turns (lowered pair.target)) (run_of (lowered pair.target) bounds input tape).taken })
 plain_point pair bounds input tape fits form = record {
   args = fits.args;
   given = fits.given;
@@ -52,7 +59,7 @@ plain_point pair bounds input tape fits form = record {
   plain = rw form.same form.plain;
 }
 
-allowed_same : (pair : RunPair) (bounds : Bounds) (input : Input) (tape other : List ℕ) → run_of pair.target bounds input other ≡ run_of pair.target bounds input tape → IsAllowed pair bounds input other → IsAllowed pair bounds input tape
+pub allowed_same : (pair : RunPair) (bounds : Bounds) (input : Input) (tape other : List ℕ) → run_of pair.target bounds input other ≡ run_of pair.target bounds input tape → IsCovered pair bounds input other → IsCovered pair bounds input tape
 allowed_same pair bounds input tape other e a = record { source_tape = a.source_tape; refined = (let r = a.refined in rw e at r) }
 
 -- ---- the least cover
@@ -99,27 +106,3 @@ open_is_least pair bounds before [] (q ∷ []) p trail e = let same : q ≡ p = 
 open_is_least pair bounds before [] (q ∷ (r ∷ rs)) p trail e = absurd trail
 open_is_least pair bounds before (t ∷ ts) (q ∷ qs) p trail e = rw (cons_after before t ts) (open_is_least pair bounds (before ++ t ∷ []) ts qs p trail.2 e)
 open_is_least pair bounds before (t ∷ ts) [] p trail e = absurd trail
-
--- ---- the two laws
-
-pub correct_holds : CorrectHolds
-correct_holds = λ functions bounds budget verdict. λ input tape within.
-    let pair : RunPair = run_pair functions in
-    let all = ends_correct pair bounds budget verdict.kept.tapes (slice_get verdict.kept.points (length verdict.kept.tapes)) verdict.judges.ends in
-    let form = tapes_have_plain_forms pair.target bounds input tape in
-    let plain = plain_form (need_of bounds.turns pair.target) (run_of pair.target bounds input tape).taken in
-    let p : Point = record { input = input; tape = plain } in
-    allowed_same pair bounds input tape plain form.same (covered_is_allowed pair bounds verdict.kept.tapes p (all p (plain_point pair bounds input tape within form)))
-
-pub incorrect_fails : IncorrectFails
-incorrect_fails = λ functions bounds budget p verdict.
-    let pair : RunPair = run_pair functions in
-    let opened = ends_incorrect pair bounds budget verdict.kept.tapes (slice_get verdict.kept.points (length verdict.kept.tapes)) p verdict.judges.ends in
-    let last : IsLeastUncovered pair bounds verdict.kept.tapes p = open_is_least pair bounds [] verdict.kept.tapes verdict.kept.points p verdict.judges.trail opened.is in
-    record {
-      point = last.point;
-      none = λ tape.
-          let form = tapes_have_plain_forms pair.source bounds p.input tape in
-          sym (plain_covers pair bounds p tape) ∙ opened.none _ (widen (widest_choice pair.source) (need_of bounds.turns pair.source) _ (widest_small pair.source) form.fits);
-      least = λ q point less. covered_is_allowed pair bounds verdict.kept.tapes q (last.least q point less);
-    }

@@ -5,14 +5,15 @@ pub fn least_covers_are_plain()
     ensures { LeastCoversArePlain }
 {}
 
-/// Where the verdict is correct, each run of the target is one that a run of the source allows, on
-/// every input within the bounds and for choices of any length.
+/// Where the verdict on two functions that the reader accepts is correct, each run of the target is one
+/// that a run of the source allows, on every input within the bounds and for choices of any length. The
+/// runs are those of the functions as they are read, each use of a register that carries undef sampled.
 pub fn correct_holds()
     ensures { CorrectHolds }
 {}
 
-/// Where the verdict is incorrect, no tape of any length covers its point, and some tape covers each
-/// smaller point.
+/// Where the verdict is incorrect, no run of the source allows the target's run at its point, and some
+/// run allows it at each smaller point.
 pub fn incorrect_fails()
     ensures { IncorrectFails }
 {}

@@ -18,7 +18,7 @@ returns g c =
     record {
       whole = report_text bounds budget rows;
       report = report;
-      sound = c.reports_are_sound.ensures bounds budget c.args.source.now c.args.target.now _ _ _ c.requires.source_is.distinct c.requires.target_is.distinct report;
+      sound = c.reports_are_sound.ensures bounds budget c.args.source.now c.args.target.now _ _ _ c.requires.source_is c.requires.target_is report;
       text_is =
           c.in_ok-text.ensures ∙ ap (λ (line : List ℕ). summary_text bounds budget line c.as_slice-2.result.now) (c.as_slice-3.ensures.value ∙ c.in_ok-line.ensures)
           ∙ ap (λ (rs : List Row). summary_text bounds budget (make_line (seen_make c.args.job.now)) rs) c.as_slice-2.ensures.value;

@@ -1,4 +1,4 @@
-use Rattle.verdicts.proofs.Meaning.{correct_holds}
+use Rattle.verdicts.proofs.Sampled.{correct_holds}
 use Rattle.verdicts.proofs.laws.correct_holds.Goals as goal
 
 pub returns : goal.returns

@@ -1,4 +1,4 @@
-use Rattle.verdicts.proofs.Meaning.{incorrect_fails}
+use Rattle.verdicts.proofs.Sampled.{incorrect_fails}
 use Rattle.verdicts.proofs.laws.incorrect_fails.Goals as goal
 
 pub returns : goal.returns
