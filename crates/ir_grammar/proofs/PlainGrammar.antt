@@ -1,5 +1,5 @@
 -- The forms of the grammar distinguish what comes next, so that looking one token ahead loses nothing.
-use Rattle.ir_grammar.proofs.Common.{◌≡◌, ℕ, zero, suc, Bool, true, false, List, Option, Some, None, cond, refl, sym, subst, codes, ◌||◌, is_some, nat_lt, Lexeme, IrType, never, either, LineStart, ParameterPart, HeaderPart, WrittenName, WrittenIntType, WrittenParameters, WrittenLines, WrittenLine, WrittenArrays, is_word_of, is_mark_of, terminator_of, flag_text, prefix_of, prefix_named, is_linkage, is_visibility, bits_of, spelled_width, int_typed_at, passed, passed_at, as_word, as_mark, int_type, element_type, return_type, terminator_word, attachment_or_type, brace, is_wrap, wraps, flagged_type, comparison, typed, binary, wrapping, exact, plain, disjunction, icmp, cast_by, truncate, zero_extend, sign_extend, select, freeze, inst_by, entry, phi, next_entry, attached, entry_or_attachment, is_square, with_length, arrays, closers, alloca_object, is_gep_flag, gep_flags, gep_arrays, gep_object, pointer, alloca, load, store, gep, aligned, align_or_attachment, next_index, index_or_attachment, inst_line, line_by, line_named, is_comma, is_prefix, prefixes, follows_parameter, with_part, parameter_parts, first_parameter, parameters, follows_header, comdat_rest, debug_rest, with_header, header_parts, attachment, record_rest, starts_line, started, commas, with_comma, whole_line, next_line, lines, returned_by, returned, target, cond_branch, branch_to, branch, is_type, with_case, cases, switch, return_of, terminator_by, attachments, block, begins_block, entry_block, next_block, blocks, define}
+use Rattle.ir_grammar.proofs.Common.{◌≡◌, ℕ, zero, suc, Bool, true, false, List, Option, Some, None, cond, refl, sym, subst, codes, ◌||◌, is_some, nat_lt, Lexeme, IrType, never, either, LineStart, ParameterPart, HeaderPart, WrittenName, WrittenIntType, WrittenParameters, WrittenLines, WrittenLine, WrittenArrays, is_word_of, is_mark_of, terminator_of, flag_text, prefix_of, prefix_named, is_linkage, is_visibility, bits_of, spelled_width, int_typed_at, passed, passed_at, as_word, as_mark, int_type, element_type, return_type, terminator_word, attachment_or_type, brace, is_wrap, wraps, flagged_type, comparison, typed, arm, binary, wrapping, exact, plain, disjunction, icmp, cast_by, truncate, zero_extend, sign_extend, select, freeze, inst_by, entry, phi, next_entry, attached, entry_or_attachment, is_square, with_length, arrays, closers, alloca_object, is_gep_flag, gep_flags, gep_arrays, gep_object, pointer, alloca, load, store, gep, aligned, align_or_attachment, next_index, index_or_attachment, inst_line, line_by, line_named, is_comma, is_prefix, prefixes, follows_parameter, with_part, parameter_parts, first_parameter, parameters, follows_header, comdat_rest, debug_rest, with_header, header_parts, attachment, record_rest, starts_line, started, commas, with_comma, whole_line, next_line, lines, returned_by, returned, target, cond_branch, branch_to, branch, is_type, with_case, cases, switch, return_of, terminator_by, attachments, block, begins_block, entry_block, next_block, blocks, define}
 use Rattle.std.specs.Str.{bytes_eq}
 use Rattle.std.proofs.lemmas.Slice.Eq.{bytes_eq-Decides}
 use Rattle.text_places.specs.declared.place.Place.{Place}
@@ -93,6 +93,11 @@ tells-binary : (name : WrittenName) (o : Op) (type : WrittenIntType) → TellsAp
 unfolding binary
 tells-binary name o type = (tt, λ a. (tt, λ b. (tt, λ c. tt)))
 
+tells-arm : (of_integer : Bool) → TellsApart (arm of_integer)
+unfolding arm
+tells-arm false = (tt, λ a. (tt, λ b. tt))
+tells-arm true = ((tt, λ a. tt), λ a. (tt, λ b. tt))
+
 tells-cast : (name : WrittenName) (c : Cast) (from : WrittenIntType) → TellsApart (cast_by name c from)
 unfolding cast_by
 tells-cast name c from = (tt, λ a. (tt, λ b. (tt, λ d. tt)))
@@ -107,7 +112,7 @@ tells-inst name opcode.Icmp = (tells-comparison, λ a. (tt, λ b. (tt, λ c. (tt
 tells-inst name opcode.Truncate = ((tells-wraps true, λ a. apart-tail is_wrap _ no-wrap), λ a. tells-cast name _ _)
 tells-inst name opcode.ZeroExtend = (tells-flagged flag.NonNegative, λ a. tells-cast name _ _)
 tells-inst name opcode.SignExtend = (tt, λ a. tells-cast name _ _)
-tells-inst name opcode.Select = (tt, λ a. (tt, λ b. (tt, λ c. (tells-typed false, λ d. (tt, λ e. (tells-typed false, λ f. tt))))))
+tells-inst name opcode.Select = (tt, λ a. (tt, λ b. (tt, λ c. (tells-arm _, λ d. (tt, λ e. (tells-arm _, λ f. tt))))))
 tells-inst name opcode.Freeze = (tells-typed true, λ a. tt)
 
 tells-entry : (type : WrittenType) → TellsApart (entry type)

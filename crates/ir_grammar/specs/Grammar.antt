@@ -56,7 +56,7 @@ use Rattle.ir_words.specs.declared.written.WrittenReturn.TheVariants.{Void, Valu
 use Rattle.ir_grammar.specs.declared.written.WrittenFunction.{WrittenFunction}
 use Rattle.ir_words.specs.Words.{is_word_of, is_mark_of, prefix_of}
 use Rattle.ir_words.specs.Spelling.{is_pointer_type, parameter_part, header_part, line_start, label_of, named_at, width_in, int_typed_at, is_width}
-use Rattle.ir_grammar.specs.Classes.{any, word, mark, mark_or_type, brace, as_mark, local, global, counted_type, value_type, int_type, bit_type, return_type, operand_class, literal_class, terminator_word, attachment_word, metadata_number, comdat_name}
+use Rattle.ir_grammar.specs.Classes.{word, mark, mark_or_type, brace, as_mark, local, global, counted_type, value_type, int_type, bit_type, return_type, operand_class, literal_class, terminator_word, attachment_word, metadata_number, comdat_name}
 use Rattle.ir_grammar.specs.Instructions.{many, words, line_named, store, default_align, entry_or_attachment, align_or_attachment, index_or_attachment}
 
 abbrev pub is_comma : Lexeme → Bool

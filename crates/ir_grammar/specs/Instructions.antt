@@ -16,8 +16,13 @@
 --   object      = TYPE | "[" NUMBER "x" object "]"
 --   pointer     = "ptr" VALUE
 --   align       = "," "align" NUMBER
-use Rattle.std.specs.Prelude.{refl, ℕ, zero, suc, [], ◌∷◌, ◌++◌, length, Option, Bool, true, false, ◌||◌, nat_lt, codes}
+--
+-- undef may be a VALUE of an operation that doesn't divide, of icmp, a cast, select and freeze (LLVM
+-- Language Reference, "Undefined Values"). An arm of a select that is undef has an integer type, and
+-- where the condition is undef both arms have.
+use Rattle.std.specs.Prelude.{refl, ℕ, zero, suc, [], ◌∷◌, ◌++◌, length, Option, Bool, true, false, ◌||◌, not, nat_lt, codes}
 use Rattle.ir_lexer.specs.Lexeme.{Lexeme}
+use Rattle.ir_tree.specs.Carrying.{is_division, is_pointer}
 use Rattle.ir_tree.specs.Types.{one_bit}
 use Rattle.ir_tree.specs.declared.tree.Flags.{Flags}
 use Rattle.ir_tree.specs.Types.{type_align}
@@ -40,6 +45,8 @@ use Rattle.ir_words.specs.declared.written.WrittenName.{WrittenName}
 use Rattle.ir_words.specs.declared.written.WrittenIntType.{WrittenIntType}
 use Rattle.ir_words.specs.declared.written.WrittenType.{WrittenType}
 use Rattle.ir_words.specs.declared.written.WrittenTyped.{WrittenTyped}
+use Rattle.ir_words.specs.declared.written.WrittenValue.{WrittenValue}
+use Rattle.ir_words.specs.declared.written.WrittenValue.TheVariants as value
 use Rattle.ir_words.specs.declared.written.WrittenInst.{WrittenInst}
 use Rattle.ir_words.specs.declared.written.WrittenInst.TheVariants as inst
 use Rattle.ir_words.specs.declared.written.GepFlags.{GepFlags}
@@ -93,7 +100,7 @@ comparison = optional (flag_word flag.SameSign) predicate_class
 
 -- ---- operands
 
--- type value, which may be undef in some places
+-- type value, which may be undef where that is allowed
 unfoldable pub typed : Bool → Form never WrittenTyped
 typed undef_too = do
   type ← one value_type
@@ -102,12 +109,12 @@ typed undef_too = do
 
 -- ---- instructions, after their word
 
--- left, right, after the type
+-- left, right, after the type; undef is neither in a division
 unfoldable pub binary : WrittenName → Op → WrittenIntType → Form never WrittenInst
 binary name o type = do
-  left ← one (operand_class false (Int type.width))
+  left ← one (operand_class (not (is_division o)) (Int type.width))
   comma ← one (mark (codes ",") refl)
-  right ← one (operand_class false (Int type.width))
+  right ← one (operand_class (not (is_division o)) (Int type.width))
   give (inst.Binary name o type left right)
 
 -- [nuw] [nsw] type left, right
@@ -139,15 +146,15 @@ unfoldable pub icmp : WrittenName → Form never WrittenInst
 icmp name = do
   compares ← comparison
   type ← one int_type
-  left ← one (operand_class false (Int type.width))
+  left ← one (operand_class true (Int type.width))
   comma ← one (mark (codes ",") refl)
-  right ← one (operand_class false (Int type.width))
+  right ← one (operand_class true (Int type.width))
   give (inst.Icmp name compares.1 compares.0 type left right)
 
 -- value to type, after the first type
 unfoldable pub cast_by : WrittenName → Cast → WrittenIntType → Form never WrittenInst
 cast_by name c from = do
-  value ← one (operand_class false (Int from.width))
+  value ← one (operand_class true (Int from.width))
   word_to ← one (word (codes "to") refl)
   to ← one int_type
   give (inst.Cast name c from value to)
@@ -170,15 +177,34 @@ sign_extend name = do
   type ← one int_type
   cast_by name cast.SignExtend type
 
--- i1 condition, type value, type value
+abbrev pub is_undef : WrittenValue → Bool
+is_undef (value.Local name) = false
+is_undef (value.Literal number) = false
+is_undef value.Null = false
+is_undef value.Poison = false
+is_undef value.Undef = true
+
+-- the type of an arm, an integer type where it has to be one
+abbrev pub arm_type : Bool → Form never WrittenType
+arm_type false = one value_type
+arm_type true = one int_type >>= λ type. give (record { of_type = Int type.width; at = type.at })
+
+-- type value of an arm, where only an integer is undef
+unfoldable pub arm : Bool → Form never WrittenTyped
+arm of_integer = do
+  type ← arm_type of_integer
+  value ← one (operand_class (not (is_pointer type.of_type)) type.of_type)
+  give (record { of_type = type; operand = value })
+
+-- i1 condition, type value, type value; between integers where the condition is undef
 unfoldable pub select : WrittenName → Form never WrittenInst
 select name = do
   bit ← one bit_type
-  condition ← one (operand_class false (Int one_bit))
+  condition ← one (operand_class true (Int one_bit))
   comma ← one (mark (codes ",") refl)
-  if_true ← typed false
+  if_true ← arm (is_undef condition.value)
   comma' ← one (mark (codes ",") refl)
-  if_false ← typed false
+  if_false ← arm (is_undef condition.value)
   give (inst.Select name bit condition if_true if_false)
 
 -- type value

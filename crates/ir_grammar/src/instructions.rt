@@ -2,6 +2,7 @@
 ghost use Rattle.std.specs.Prelude.{◌≡◌, true};
 ghost use Rattle.token_forms.specs.Form.{reads, read, begin_of};
 ghost use Rattle.token_forms.specs.Answer.{Reads};
+ghost use Rattle.ir_tree.specs.Carrying.{is_division};
 ghost use Rattle.ir_tree.specs.Types.{one_bit};
 ghost use Rattle.ir_words.specs.Words.{flag_text};
 ghost use Rattle.ir_grammar.specs.Classes.{any, as_word, passed};
@@ -12,7 +13,7 @@ use ir_lexer::Kind;
 use ir_tree::{Cast, Flags, IrType, Op, Predicate};
 use ir_words::{
     ExactWord, Flag, LineWord, Opcode, WrapWord, WrittenInst, WrittenIntType, WrittenLine,
-    WrittenName, WrittenTyped, exact_op, wrapping_op,
+    WrittenName, WrittenType, WrittenTyped, WrittenValue, exact_op, wrapping_op,
 };
 use token_forms::ReadFault;
 use tv_num::Width;
@@ -27,6 +28,25 @@ pub fn one_bit() -> Width
     ensures { result ≡ one_bit }
 {
     Width::of(1)
+}
+
+// Whether an operation divides, so that neither of its operands may be undef.
+fn is_division(op: Op) -> bool
+    ensures { result ≡ is_division op }
+{
+    match op {
+        Op::UnsignedDiv { .. } | Op::UnsignedRem => true,
+        Op::SignedDiv { .. } | Op::SignedRem => true,
+        Op::Add(_) | Op::Sub(_) | Op::Mul(_) => false,
+        Op::ShiftLeft(_) | Op::LogicalShiftRight { .. } | Op::ArithmeticShiftRight { .. } => false,
+        Op::And | Op::Or { .. } | Op::Xor => false,
+    }
+}
+
+fn is_undef(value: &WrittenValue) -> bool
+    ensures { result ≡ spec.is_undef value.now }
+{
+    matches!(value, WrittenValue::Undef)
 }
 
 impl<'a, 'b> Cursor<'a, 'b> {
@@ -116,9 +136,10 @@ impl<'a, 'b> Cursor<'a, 'b> {
     ) -> Result<WrittenInst, ReadFault>
         ensures { Reads (λ x. x) result self.new (read true (spec.binary into op of_type) self.old) }
     {
-        let left = self.operand(false, IrType::Int(of_type.width))?;
+        let undef_too = !is_division(op);
+        let left = self.operand(undef_too, IrType::Int(of_type.width))?;
         self.mark(b",".as_slice())?;
-        let right = self.operand(false, IrType::Int(of_type.width))?;
+        let right = self.operand(undef_too, IrType::Int(of_type.width))?;
         Ok(WrittenInst::Binary {
             into,
             op,
@@ -167,9 +188,9 @@ impl<'a, 'b> Cursor<'a, 'b> {
     {
         let (same_sign, predicate) = self.comparison()?;
         let of_type = self.int_type()?;
-        let left = self.operand(false, IrType::Int(of_type.width))?;
+        let left = self.operand(true, IrType::Int(of_type.width))?;
         self.mark(b",".as_slice())?;
-        let right = self.operand(false, IrType::Int(of_type.width))?;
+        let right = self.operand(true, IrType::Int(of_type.width))?;
         Ok(WrittenInst::Icmp {
             into,
             predicate,
@@ -189,7 +210,7 @@ impl<'a, 'b> Cursor<'a, 'b> {
     ) -> Result<WrittenInst, ReadFault>
         ensures { Reads (λ x. x) result self.new (read true (spec.cast_by into cast from) self.old) }
     {
-        let operand = self.operand(false, IrType::Int(from.width))?;
+        let operand = self.operand(true, IrType::Int(from.width))?;
         self.word(b"to".as_slice())?;
         let to = self.int_type()?;
         Ok(WrittenInst::Cast {
@@ -226,16 +247,43 @@ impl<'a, 'b> Cursor<'a, 'b> {
         self.cast_by(into, Cast::SignExtend, from)
     }
 
+    // The type of an arm of a select, an integer type where it has to be one.
+    fn arm_type(&mut self, of_integer: bool) -> Result<WrittenType, ReadFault>
+        ensures { Reads (λ x. x) result self.new (read true (spec.arm_type of_integer) self.old) }
+    {
+        if !of_integer {
+            return self.value_type();
+        }
+        let found = self.int_type()?;
+        let of_type = IrType::Int(found.width);
+        Ok(WrittenType {
+            of_type,
+            at: found.at,
+        })
+    }
+
+    // An arm of a select, where only an integer is undef.
+    #[tactic(auto, unfolding(crate::specs::Instructions::arm))]
+    fn arm(&mut self, of_integer: bool) -> Result<WrittenTyped, ReadFault>
+        ensures { Reads (λ x. x) result self.new (read true (spec.arm of_integer) self.old) }
+    {
+        let of_type = self.arm_type(of_integer)?;
+        let undef_too = of_type.of_type != IrType::Ptr;
+        let operand = self.operand(undef_too, of_type.of_type)?;
+        Ok(WrittenTyped { of_type, operand })
+    }
+
     #[tactic(auto, unfolding(crate::specs::Instructions::select))]
     fn select(&mut self, into: WrittenName) -> Result<WrittenInst, ReadFault>
         ensures { Reads (λ x. x) result self.new (read true (spec.select into) self.old) }
     {
         let bit = self.bit_type()?;
-        let condition = self.operand(false, IrType::Int(one_bit()))?;
+        let condition = self.operand(true, IrType::Int(one_bit()))?;
+        let of_integers = is_undef(&condition.value);
         self.mark(b",".as_slice())?;
-        let if_true = self.typed(false)?;
+        let if_true = self.arm(of_integers)?;
         self.mark(b",".as_slice())?;
-        let if_false = self.typed(false)?;
+        let if_false = self.arm(of_integers)?;
         Ok(WrittenInst::Select {
             into,
             bit,

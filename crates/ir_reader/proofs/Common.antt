@@ -13,7 +13,7 @@ pub use Rattle.ir_grammar.specs.Classes.{any, token, start, bit_fits, int_type, 
 pub use Rattle.ir_grammar.specs.Grammar.{follows_parameter, parameter_begins, with_part, is_comma, is_local_kind, starts_line, line_begins, line_within, next_number, started, line_comma, with_comma, with_phi, with_inst, with_line, is_type, case_begins, case_within, terminator_by, body_of, begins_block, block_begins, with_header, returned_by, most_parameters}
 unfoldable pub use Rattle.ir_grammar.specs.Grammar.{define, parameter_parts, first_parameter, parameters, whole_line, next_line, lines, with_case, cases, branch, branch_to, cond_branch, switch, return_of, block, entry_block, next_block, blocks, prefixes, comdat_rest, debug_rest, header_parts, attachment, record_rest, returned, target, attachments}
 pub use Rattle.ir_grammar.specs.Instructions.{default_align, line_by, is_square, array_begins, array_within, inst_by, closers}
-unfoldable pub use Rattle.ir_grammar.specs.Instructions.{inst_line, phi, alloca, load, store, gep, line_named, entry_or_attachment, next_entry, attached, align_or_attachment, aligned, index_or_attachment, next_index, with_length, arrays, alloca_object, gep_arrays, gep_object, binary, cast_by, wrapping, exact, plain, disjunction, icmp, truncate, zero_extend, sign_extend, select, freeze, wraps, flagged_type, comparison, typed, entry, gep_flags, pointer}
+unfoldable pub use Rattle.ir_grammar.specs.Instructions.{inst_line, phi, alloca, load, store, gep, line_named, entry_or_attachment, next_entry, attached, align_or_attachment, aligned, index_or_attachment, next_index, with_length, arrays, alloca_object, gep_arrays, gep_object, binary, cast_by, wrapping, exact, plain, disjunction, icmp, truncate, zero_extend, sign_extend, select, freeze, wraps, flagged_type, comparison, typed, arm, entry, gep_flags, pointer}
 pub use Rattle.ir_words.specs.Reasons.{reason, type_reason}
 pub use Rattle.ir_words.specs.Spelling.{named_at, label_line, is_record, line_start, is_memory_type, memory_type_of, memory_type_in, type_in, type_at, fits_object, is_small_object, number_of_kind, is_alignment, width_reason, width_in, width_reason_of, int_typed_at, typed_at, int_type_in, is_pointer, is_void, returned_at, truth_value, operand_at, literal_at}
 pub use Rattle.ir_words.specs.declared.word.LineStart.{LineStart}

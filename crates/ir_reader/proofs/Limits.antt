@@ -23,7 +23,7 @@ use Rattle.ir_numbering.specs.declared.numbering.NamedParameter.{NamedParameter}
 use Rattle.ir_words.specs.Words.{is_word_of}
 use Rattle.ir_reader.specs.Judgeable.{IsJudgeable, IsJudgeableEntry}
 use Rattle.ir_reader.proofs.Placed.{well_formed-placed}
-use Rattle.ir_reader.proofs.Objects.{IsSmallAccess, IsSmallGep, IsReadInst, IsJudgeableBlock, block-judgeable, blocks-small}
+use Rattle.ir_reader.proofs.Objects.{IsSmallAccess, IsSmallGep, IsReadInst, IsJudgeableBlock, block-judgeable, blocks-small, blocks-undefs}
 use Rattle.ir_reader.proofs.Spelled.{memory-aligned, alignment-kept, default-aligned, alloca-small, gep-small, plain-known}
 
 and-first : (a b : Bool) → (a && b) ≡ true → a ≡ true
@@ -448,7 +448,7 @@ judgeable w few formed = go (parts_in named_ones label w.entry w.others) refl fo
           };
           numbered = names-numbered;
           numbers = λ k d below. let all = known k d below in all.numbers;
-          undefs = λ k d below. let all = known k d below in all.undefs;
+          undefs = blocks-undefs _ formed.types known;
         }
 
 placeless-judgeable : (f : Function) → IsJudgeable f → IsJudgeable (without_places f)

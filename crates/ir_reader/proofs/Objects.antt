@@ -1,17 +1,20 @@
--- What is numbered has small objects, its allocas have small numbers, and only integers are undef.
-use Rattle.ir_reader.proofs.Common.{◌≡◌, ℕ, zero, suc, ◌+◌, ◌<◌, ◌≤◌, ◌⊎◌, inl, inr, Bool, true, false, List, [], ◌∷◌, length, get_or, refl, sym, subst, arith, nat_le, AllByRecursion, Contains, lt-leb, cases_lt, All-nil, All-cons, Contains-append_left, Contains-append_right, IsAlignment, HasSmallArrays, HasSmallTypes, HasSmallObjects, HasSmallNumber, type_align, object_size, with_name, number_of, Name, Inst, Block, Function, Int, Ptr, TypeClash, operand_site, index_sites, indices_sites, inst_sites, Passes, WrittenInst, WrittenAccess, WrittenGep, WrittenBody, so, each_in, value_in, typed_in, binary_in, icmp_in, cast_in, select_in, freeze_in, alloca_in, load_in, store_in, index_in, gep_in, inst_in, phi_in, terminator_in, block_in, then-so, block_with}
+-- What is numbered has small objects, its allocas have small numbers, and undef is an operand only where it may be.
+use Rattle.ir_reader.proofs.Common.{◌≡◌, ℕ, zero, suc, ◌+◌, ◌<◌, ◌≤◌, ◌⊎◌, inl, inr, Bool, true, false, List, [], ◌∷◌, length, get_or, refl, sym, ap, subst, arith, nat_le, AllByRecursion, Contains, lt-leb, cases_lt, All-nil, All-cons, Contains-append_left, Contains-append_right, IsAlignment, HasSmallArrays, HasSmallTypes, HasSmallObjects, HasSmallNumber, type_align, object_size, with_name, number_of, Name, Inst, Block, Function, Int, Ptr, TypeClash, operand_site, index_sites, indices_sites, inst_sites, Passes, WrittenInst, WrittenAccess, WrittenGep, WrittenBody, so, each_in, value_in, typed_in, binary_in, icmp_in, cast_in, select_in, freeze_in, alloca_in, load_in, store_in, index_in, gep_in, inst_in, phi_in, terminator_in, block_in, then-so, block_with}
 use Rattle.std.proofs.Common.{All}
 use Rattle.std.specs.Prelude.{Some}
 use Rattle.std.proofs.lemmas.Option.{slice_get-get_or}
 use Rattle.ir_tree.specs.declared.tree.Inst.TheVariants as inst
 use Rattle.ir_tree.specs.declared.tree.GepIndex.{GepIndex}
+use Rattle.ir_tree.specs.declared.tree.Operand.{Operand}
+use Rattle.ir_tree.specs.declared.tree.TypedOperand.{TypedOperand}
+use Rattle.ir_tree.specs.Sites.{is_same_type}
 use Rattle.ir_tree.specs.declared.sites.Site.{Site}
 use Rattle.ir_tree.specs.declared.sites.Site.TheVariants.{Defines, Written}
 use Rattle.ir_tree.proofs.Standing.{inst_site}
 use Rattle.ir_words.specs.declared.written.WrittenInst.TheVariants as line
 use Rattle.ir_words.specs.declared.written.WrittenAccess.TheVariants as access
-use Rattle.undef_uses.specs.Undefs.{FitsUndef}
-use Rattle.ir_reader.proofs.Undefs.{HasWrittenUndefs, binary-numbered, divides_written, select-numbered}
+use Rattle.undef_uses.specs.Undefs.{FitsUndef, UndefsFit}
+use Rattle.ir_reader.proofs.Undefs.{FitsArms, HasWrittenArms, binary-numbered, divides_written, select-integers, select-numbered}
 
 -- ---- what is written
 
@@ -27,7 +30,7 @@ IsSmallGep g = (length g.of_type.of_type.lengths ≤ 8) × HasSmallArrays g.of_t
 -- what is known of an instruction that is read
 abbrev pub IsReadInst : WrittenInst → Type 0
 IsReadInst (line.Binary into op type left right) = divides_written op left right ≡ false
-IsReadInst (line.Select into bit condition if_true if_false) = HasWrittenUndefs condition if_true if_false
+IsReadInst (line.Select into bit condition if_true if_false) = HasWrittenArms condition if_true if_false
 IsReadInst (line.Access a align) = IsSmallAccess a × IsAlignment align
 IsReadInst (line.GetElementPtr g) = IsSmallGep g
 IsReadInst _ = Unit {0}
@@ -40,7 +43,7 @@ HasSmallParts (inst.GetElementPtr into inbounds nuw type base indices) = (length
 HasSmallParts x = HasSmallTypes x
 
 abbrev IsJudgeableInst : Inst → Type 0
-IsJudgeableInst x = HasSmallParts x × HasSmallNumber x × FitsUndef x
+IsJudgeableInst x = HasSmallParts x × HasSmallNumber x × FitsArms x
 
 inst-judgeable : (names : List Name) (i : WrittenInst) (x : Inst) (after : List Name) → inst_in names i ≡ so x after → IsReadInst i → IsJudgeableInst x
 unfolding binary_in icmp_in cast_in select_in freeze_in alloca_in load_in store_in gep_in
@@ -99,7 +102,7 @@ insts-judgeable (a ∷ items) names bs after e (first, others) =
 pub record IsJudgeableBlock (b : Block) : Type 0 where
   pub parts : All HasSmallParts b.insts
   pub numbers : All HasSmallNumber b.insts
-  pub undefs : All FitsUndef b.insts
+  pub undefs : All FitsArms b.insts
 
 judgeable-block : (b : Block) → All IsJudgeableInst b.insts → IsJudgeableBlock b
 judgeable-block b all = record {
@@ -153,10 +156,38 @@ few-indices (inst.GetElementPtr into inbounds nuw type base indices) clashes (ne
         let front : List Site = Defines (Some Ptr) into ∷ Written true ∷ Written true ∷ operand_site Ptr base ∷ [] in
         absurd (clashes (Contains-append_right front (indices_sites (length type.lengths) 0 indices) (Written false) (subst (λ (b : Bool). Contains (indices_sites (length type.lengths) 0 indices) (Written b)) outside found)))
 
+-- where the types are right, each instruction's are
+no-clash : (f : Function) → Passes TypeClash f → (k : ℕ) (d : Block) → k < length f.blocks → (j : ℕ) (i : Inst) → j < length (get_or f.blocks k d).insts → NoClash (get_or (get_or f.blocks k d).insts j i)
+no-clash f types k d below j i inside clash =
+    let b : Block = get_or f.blocks k d in
+    let S = inst_site f k b j (get_or b.insts j i) (Written false) (slice_get-get_or f.blocks k d below) (slice_get-get_or b.insts j i inside) clash in
+    types S.0 (inl S.1)
+
 -- what is small and has right types is within the limits of its objects
 pub blocks-small : (f : Function) → Passes TypeClash f → All IsJudgeableBlock f.blocks → All HasSmallObjects f.blocks
 blocks-small f types small = λ k d below.
-    let b : Block = get_or f.blocks k d in
-    λ j i inside.
-    let x : Inst = get_or b.insts j i in
-    few-indices x (λ clash. let S = inst_site f k b j x (Written false) (slice_get-get_or f.blocks k d below) (slice_get-get_or b.insts j i inside) clash in types S.0 (inl S.1)) (let all = small k d below in all.parts j i inside)
+    λ j i inside. few-indices (get_or (get_or f.blocks k d).insts j i) (no-clash f types k d below j i inside) (let all = small k d below in all.parts j i inside)
+
+-- ---- types make both arms of a select with undef integers
+
+same-arms : (into : ℕ) (c : Operand) (t f : TypedOperand) → NoClash (inst.Select into c t f) → is_same_type t.of_type f.of_type ≡ true
+same-arms into c t f clashes = go (is_same_type t.of_type f.of_type) refl
+  where
+    go : (b : Bool) → is_same_type t.of_type f.of_type ≡ b → is_same_type t.of_type f.of_type ≡ true
+    go true is = is
+    go false is = absurd (clashes (5, omega arith, ap Written is))
+
+fits-undef : (x : Inst) → NoClash x → FitsArms x → FitsUndef x
+fits-undef (inst.Binary into op width left right) clashes fits = fits
+fits-undef (inst.Icmp into predicate same_sign width left right) clashes fits = fits
+fits-undef (inst.Cast into cast from operand to) clashes fits = fits
+fits-undef (inst.Select into condition if_true if_false) clashes (divides, arms) = (divides, select-integers into condition if_true if_false (same-arms into condition if_true if_false clashes) arms)
+fits-undef (inst.Freeze into type operand) clashes fits = fits
+fits-undef (inst.Alloca into number type align) clashes fits = fits
+fits-undef (inst.Load into type pointer align) clashes fits = fits
+fits-undef (inst.Store value pointer align) clashes fits = fits
+fits-undef (inst.GetElementPtr into inbounds nuw type base indices) clashes fits = fits
+
+pub blocks-undefs : (f : Function) → Passes TypeClash f → All IsJudgeableBlock f.blocks → UndefsFit f
+blocks-undefs f types known = λ k d below.
+    λ j i inside. fits-undef (get_or (get_or f.blocks k d).insts j i) (no-clash f types k d below j i inside) (let all = known k d below in all.undefs j i inside)

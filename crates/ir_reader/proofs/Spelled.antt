@@ -6,9 +6,10 @@ use Rattle.ir_words.specs.declared.written.GepFlags.{GepFlags}
 use Rattle.ir_words.specs.declared.written.WrittenObject.{WrittenObject}
 use Rattle.ir_words.specs.declared.written.WrittenAccess.TheVariants as access
 use Rattle.ir_words.specs.Numbers.{is_negative, magnitude}
+use Rattle.ir_grammar.specs.Instructions.{is_undef}
 use Rattle.ir_grammar.proofs.SmallArrays.{are-small}
 use Rattle.ir_reader.proofs.Objects.{IsSmallAccess, IsReadInst}
-use Rattle.ir_reader.proofs.Undefs.{binary-spelled, select-spelled}
+use Rattle.ir_reader.proofs.Undefs.{binary-spelled, arm-spelled}
 
 -- ---- alignments
 
@@ -109,5 +110,5 @@ plain-known name opcode.Icmp i ts rest (compares, m1, C, (type, m2, t2, (l, m3, 
 plain-known name opcode.Truncate i ts rest (flagged, mid, F, B) = cast-known name _ flagged.1 i mid rest B
 plain-known name opcode.ZeroExtend i ts rest (flagged, mid, F, B) = cast-known name _ flagged.1 i mid rest B
 plain-known name opcode.SignExtend i ts rest (type, mid, T, B) = cast-known name _ type i mid rest B
-plain-known name opcode.Select i ts rest (bit, m1, t1, (condition, m2, C, (comma, m3, t3, (if_true, m4, A, (comma', m5, t5, (if_false, m6, B, (same, left))))))) = subst IsReadInst same (select-spelled condition if_true if_false m1 m3 m5 m2 m4 m6 C A B)
+plain-known name opcode.Select i ts rest (bit, m1, t1, (condition, m2, C, (comma, m3, t3, (if_true, m4, A, (comma', m5, t5, (if_false, m6, B, (same, left))))))) = subst IsReadInst same (arm-spelled (is_undef condition.value) if_true m3 m4 A, arm-spelled (is_undef condition.value) if_false m5 m6 B)
 plain-known name opcode.Freeze i ts rest (value, m1, V, (same, left)) = subst IsReadInst same tt

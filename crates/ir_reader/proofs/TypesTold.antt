@@ -1,6 +1,6 @@
 -- Each class of the grammar is of one of two kinds: where it comes next a type is allowed, and its reason looks
 -- for types, or neither.
-use Rattle.ir_reader.proofs.Common.{◌≡◌, ℕ, zero, suc, ◌+◌, inl, inr, Bool, true, false, List, [], ◌∷◌, ◌++◌, length, Option, Some, None, refl, sym, ap, subst, codes, arith, ◌&&◌, ◌==◌, if◌then◌else◌, nat_lt, is_some, bytes_eq, Width, Place, Lexeme, IrType, Int, Ptr, Op, Cast, Opcode, LineWord, TerminatorWord, LineStart, ParameterPart, WrittenName, WrittenIntType, WrittenType, WrittenParameters, WrittenLines, WrittenLine, WrittenPhi, WrittenCase, WrittenArrays, WrittenAccess, WrittenGep, reads, read, type_reason, width_in, width_reason, width_reason_of, int_typed_at, typed_at, type_in, int_type_in, is_pointer, is_void, returned_at, truth_value, operand_at, literal_at, token, start, bit_fits, int_type, counted_type, memory_type, element_type, pointer_type, bit_type, return_type, operand_class, literal_class, line_word, flag_word, wraps, flagged_type, comparison, typed, binary, wrapping, exact, plain, disjunction, icmp, cast_by, truncate, zero_extend, sign_extend, select, freeze, inst_by, entry, phi, next_entry, attached, entry_or_attachment, with_length, arrays, closers, alloca_object, gep_flags, gep_arrays, gep_object, pointer, alloca, load, store, gep, aligned, align_or_attachment, next_index, index_or_attachment, inst_line, line_by, line_named, prefixes, with_part, parameter_parts, first_parameter, parameters, comdat_rest, debug_rest, with_header, header_parts, attachment, record_rest, started, with_comma, whole_line, next_line, lines, returned_by, returned, target, cond_branch, branch_to, branch, is_type, with_case, cases, switch, return_of, terminator_by, attachments, block, entry_block, next_block, blocks, define, append-nil, parts, Spells, part_value, part_begins, read_lawful, read-found, one_bit, case_begins, case_within, most_parameters}
+use Rattle.ir_reader.proofs.Common.{◌≡◌, ℕ, zero, suc, ◌+◌, inl, inr, Bool, true, false, List, [], ◌∷◌, ◌++◌, length, Option, Some, None, refl, sym, ap, subst, codes, arith, ◌&&◌, not, ◌==◌, if◌then◌else◌, nat_lt, is_some, bytes_eq, Width, Place, Lexeme, IrType, Int, Ptr, Op, Cast, Opcode, LineWord, TerminatorWord, LineStart, ParameterPart, WrittenName, WrittenIntType, WrittenType, WrittenParameters, WrittenLines, WrittenLine, WrittenPhi, WrittenCase, WrittenArrays, WrittenAccess, WrittenGep, reads, read, type_reason, width_in, width_reason, width_reason_of, int_typed_at, typed_at, type_in, int_type_in, is_pointer, is_void, returned_at, truth_value, operand_at, literal_at, token, start, bit_fits, int_type, counted_type, memory_type, element_type, pointer_type, bit_type, return_type, operand_class, literal_class, line_word, flag_word, wraps, flagged_type, comparison, typed, arm, binary, wrapping, exact, plain, disjunction, icmp, cast_by, truncate, zero_extend, sign_extend, select, freeze, inst_by, entry, phi, next_entry, attached, entry_or_attachment, with_length, arrays, closers, alloca_object, gep_flags, gep_arrays, gep_object, pointer, alloca, load, store, gep, aligned, align_or_attachment, next_index, index_or_attachment, inst_line, line_by, line_named, prefixes, with_part, parameter_parts, first_parameter, parameters, comdat_rest, debug_rest, with_header, header_parts, attachment, record_rest, started, with_comma, whole_line, next_line, lines, returned_by, returned, target, cond_branch, branch_to, branch, is_type, with_case, cases, switch, return_of, terminator_by, attachments, block, entry_block, next_block, blocks, define, append-nil, parts, Spells, part_value, part_begins, read_lawful, read-found, one_bit, case_begins, case_within, most_parameters}
 use Rattle.ir_lexer.specs.declared.token.Kind.TheVariants as kind
 use Rattle.ir_words.specs.declared.word.Opcode.TheVariants as opcode
 use Rattle.ir_words.specs.declared.word.Flag.{Flag}
@@ -13,6 +13,7 @@ use Rattle.ir_words.specs.declared.word.HeaderPart.{HeaderPart}
 use Rattle.ir_words.specs.declared.word.HeaderPart.TheVariants as header
 use Rattle.ir_words.specs.declared.written.WrittenLine.TheVariants as line
 use Rattle.ir_words.specs.Spelling.{value_in}
+use Rattle.ir_tree.specs.Carrying.{is_division, is_pointer as is_pointer_type}
 use Rattle.ir_reader.proofs.Looking.{GoesOnWithTypes, parts-go-on, parts-end, IsOfType, IsOfNone, Stands, TellsTypes}
 
 -- ---- classes of types
@@ -110,11 +111,16 @@ tells-typed undef_too = (inl (counted-kind true), λ a. (inr (operand-kind undef
 
 tells-binary : (name : WrittenName) (o : Op) (type : WrittenIntType) → TellsTypes (binary name o type)
 unfolding binary
-tells-binary name o type = (inr (operand-kind false (Int type.width)), λ a. (inr (λ t. refl, (refl, refl, refl)), λ b. (inr (operand-kind false (Int type.width)), λ c. tt)))
+tells-binary name o type = (inr (operand-kind (not (is_division o)) (Int type.width)), λ a. (inr (λ t. refl, (refl, refl, refl)), λ b. (inr (operand-kind (not (is_division o)) (Int type.width)), λ c. tt)))
+
+tells-arm : (of_integer : Bool) → TellsTypes (arm of_integer)
+unfolding arm
+tells-arm false = (inl (counted-kind true), λ a. (inr (operand-kind (not (is_pointer_type a.of_type)) a.of_type), λ b. tt))
+tells-arm true = ((inl int-kind, λ a. tt), λ a. (inr (operand-kind (not (is_pointer_type a.of_type)) a.of_type), λ b. tt))
 
 tells-cast : (name : WrittenName) (c : Cast) (from : WrittenIntType) → TellsTypes (cast_by name c from)
 unfolding cast_by
-tells-cast name c from = (inr (operand-kind false (Int from.width)), λ a. (inr (λ t. refl, (refl, refl, refl)), λ b. (inl int-kind, λ d. tt)))
+tells-cast name c from = (inr (operand-kind true (Int from.width)), λ a. (inr (λ t. refl, (refl, refl, refl)), λ b. (inl int-kind, λ d. tt)))
 
 tells-inst : (name : WrittenName) (o : Opcode) → TellsTypes (inst_by name o)
 unfolding wrapping exact plain disjunction icmp truncate zero_extend sign_extend select freeze
@@ -122,11 +128,11 @@ tells-inst name (opcode.Wrapping w) = ((tells-wraps false, λ a. inl (int-kind.0
 tells-inst name (opcode.Exact w) = (tells-flagged flag.Exact, λ a. tells-binary name _ _)
 tells-inst name (opcode.Plain o) = (inl int-kind, λ a. tells-binary name _ _)
 tells-inst name opcode.Or = (tells-flagged flag.Disjoint, λ a. tells-binary name _ _)
-tells-inst name opcode.Icmp = (tells-comparison, λ a. (inl int-kind, λ b. (inr (operand-kind false (Int b.width)), λ c. (inr (λ t. refl, (refl, refl, refl)), λ d. (inr (operand-kind false (Int b.width)), λ e. tt)))))
+tells-inst name opcode.Icmp = (tells-comparison, λ a. (inl int-kind, λ b. (inr (operand-kind true (Int b.width)), λ c. (inr (λ t. refl, (refl, refl, refl)), λ d. (inr (operand-kind true (Int b.width)), λ e. tt)))))
 tells-inst name opcode.Truncate = ((tells-wraps true, λ a. inl (int-kind.0, inl (refl, (int_type.value, refl)))), λ a. tells-cast name _ _)
 tells-inst name opcode.ZeroExtend = (tells-flagged flag.NonNegative, λ a. tells-cast name _ _)
 tells-inst name opcode.SignExtend = (inl int-kind, λ a. tells-cast name _ _)
-tells-inst name opcode.Select = (inl bit-kind, λ a. (inr (operand-kind false (Int one_bit)), λ b. (inr (λ t. refl, (refl, refl, refl)), λ c. (tells-typed false, λ d. (inr (λ t. refl, (refl, refl, refl)), λ e. (tells-typed false, λ f. tt))))))
+tells-inst name opcode.Select = (inl bit-kind, λ a. (inr (operand-kind true (Int one_bit)), λ b. (inr (λ t. refl, (refl, refl, refl)), λ c. (tells-arm _, λ d. (inr (λ t. refl, (refl, refl, refl)), λ e. (tells-arm _, λ f. tt))))))
 tells-inst name opcode.Freeze = (tells-typed true, λ a. tt)
 
 tells-entry : (type : WrittenType) → TellsTypes (entry type)

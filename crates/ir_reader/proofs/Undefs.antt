@@ -1,6 +1,6 @@
--- No division has undef for an operand, and a select that has one is between integers, as it is spelled and as it is
--- numbered.
-use Rattle.ir_reader.proofs.Common.{◌≡◌, ◌∙◌, ◌⊎◌, inl, inr, ℕ, Bool, true, false, cond, List, [], ◌∷◌, Option, Some, None, refl, sym, ap, subst, ◌&&◌, ◌||◌, list_any, bytes_eq, codes, Lexeme, Kind, Name, IrType, Int, Ptr, Spells, number_of, truth_value, operand_at, operand_class, one, one_bit, typed, so, value_in, typed_in, then-so}
+-- No division has undef for an operand, and a select that has one is between integers: as it is spelled, as it is
+-- numbered, and, since its arms have the same type, of a function whose types are right.
+use Rattle.ir_reader.proofs.Common.{◌≡◌, ◌∙◌, ◌⊎◌, inl, inr, ℕ, Bool, true, false, cond, List, [], ◌∷◌, Option, Some, None, refl, sym, ap, subst, ◌&&◌, ◌||◌, not, bytes_eq, codes, Lexeme, Kind, Name, IrType, Int, Ptr, Inst, Spells, WrittenType, number_of, truth_value, operand_at, operand_class, one, arm, so, value_in, typed_in, then-so}
 use Rattle.ir_lexer.specs.declared.token.Kind.TheVariants as kind
 use Rattle.ir_items.specs.Names.{name_in}
 use Rattle.ir_words.specs.Numbers.{is_negative, magnitude, wrapped}
@@ -16,22 +16,19 @@ use Rattle.ir_tree.specs.declared.tree.Inst.TheVariants as inst
 use Rattle.ir_tree.specs.declared.tree.Op.{Op}
 use Rattle.tv_num.specs.declared.Width.{Width}
 use Rattle.ir_tree.specs.Carrying.{is_division, is_pointer}
+use Rattle.ir_tree.specs.Sites.{is_same_type}
+use Rattle.ir_grammar.specs.Instructions.{is_undef as is_undef_written}
 use Rattle.undef_uses.specs.Undefs.{is_undef, divides_undef, HasIntegerUndefs}
 
 -- ---- what is written
 
-abbrev is_undef_written : WrittenValue → Bool
-is_undef_written written.Undef = true
-is_undef_written (written.Local name) = false
-is_undef_written (written.Literal number) = false
-is_undef_written written.Null = false
-is_undef_written written.Poison = false
+-- an arm of a select is an integer where it has to be one, and where it is undef
+abbrev IsWrittenArm : Bool → WrittenTyped → Type 0
+IsWrittenArm of_integer t = (of_integer || is_undef_written t.operand.value) ≡ true → is_pointer t.of_type.of_type ≡ false
 
--- what HasIntegerUndefs says, of the parts of a select that is written
-abbrev pub HasWrittenUndefs : WrittenOperand → WrittenTyped → WrittenTyped → Type 0
-HasWrittenUndefs condition if_true if_false =
-    list_any is_undef_written (condition.value ∷ if_true.operand.value ∷ if_false.operand.value ∷ []) ≡ true
-    → (is_pointer if_true.of_type.of_type ≡ false) × (is_pointer if_false.of_type.of_type ≡ false)
+-- what HasIntegerArms says, of the parts of a select that is written
+abbrev pub HasWrittenArms : WrittenOperand → WrittenTyped → WrittenTyped → Type 0
+HasWrittenArms condition if_true if_false = IsWrittenArm (is_undef_written condition.value) if_true × IsWrittenArm (is_undef_written condition.value) if_false
 
 -- what divides_undef says, of the operands of an operation that is written
 abbrev pub divides_written : Op → WrittenOperand → WrittenOperand → Bool
@@ -83,45 +80,30 @@ operand-taken undef_too type x ts rest T h = go (spelled_in undef_too type T.fir
         let same : (let y : WrittenOperand = record { value = v; at = T.first.place } in y) ≡ x = cc e in
         value-taken undef_too type T.first.kind T.first.text v is (subst (λ (y : WrittenOperand). is_undef_written y.value ≡ true) (sym same) h)
 
-typed-taken : (undef_too : Bool) (x : WrittenTyped) (ts rest : List Lexeme) → Spells true (typed undef_too) x ts rest → is_undef_written x.operand.value ≡ true → undef_too ≡ true
-unfolding typed
-typed-taken undef_too x ts rest (type, mid, T, (value, m2, V, (same, left))) h =
-    operand-taken undef_too type.of_type value mid m2 V (subst (λ (y : WrittenTyped). is_undef_written y.operand.value ≡ true) (sym same) h)
+no-pointer : (b : Bool) → not b ≡ true → b ≡ false
+no-pointer true e = absurd (cc e)
+no-pointer false e = refl
 
-one-of : (a b c : Bool) → (a || (b || (c || false))) ≡ true → (a ≡ true) ⊎ ((b ≡ true) ⊎ (c ≡ true))
-one-of true b c e = inl refl
-one-of false true c e = inr (inl refl)
-one-of false false true e = inr (inr refl)
-one-of false false false e = absurd (cc e)
+pub arm-spelled : (of_integer : Bool) (x : WrittenTyped) (ts rest : List Lexeme) → Spells true (arm of_integer) x ts rest → IsWrittenArm of_integer x
+unfolding arm
+arm-spelled false x ts rest (type, mid, T, (value, m2, V, (same, left))) =
+    subst (λ (y : WrittenTyped). IsWrittenArm false y) same (λ undef. no-pointer (is_pointer type.of_type) (operand-taken (not (is_pointer type.of_type)) type.of_type value mid m2 V undef))
+arm-spelled true x ts rest (type, mid, (width, m1, W, (is, left1)), (value, m2, V, (same, left))) =
+    subst (λ (y : WrittenTyped). IsWrittenArm true y) same (λ undef. ap (λ (y : WrittenType). is_pointer y.of_type) (sym is))
 
-never-true : (b : Bool) → (b ≡ true → false ≡ true) → b ≡ false
-never-true true never = sym (never refl)
-never-true false never = refl
-
-neither : (d a b : Bool) → a ≡ false → b ≡ false → (d && (a || b)) ≡ false
-neither true false false p q = refl
+-- an operation without undef where it divides
+neither : (d a b : Bool) → (a ≡ true → not d ≡ true) → (b ≡ true → not d ≡ true) → (d && (a || b)) ≡ false
 neither false a b p q = refl
-neither true true b p q = absurd (cc p)
-neither true false true p q = absurd (cc q)
+neither true false false p q = refl
+neither true true b p q = absurd (cc (p refl))
+neither true false true p q = absurd (cc (q refl))
 
--- no operand of an operation is undef as yet
 pub binary-spelled : (op : Op) (type : IrType) (left right : WrittenOperand) (t1 t2 r1 r2 : List Lexeme)
-    → Spells true (one (operand_class false type)) left t1 r1 → Spells true (one (operand_class false type)) right t2 r2 → divides_written op left right ≡ false
+    → Spells true (one (operand_class (not (is_division op)) type)) left t1 r1 → Spells true (one (operand_class (not (is_division op)) type)) right t2 r2 → divides_written op left right ≡ false
 binary-spelled op type left right t1 t2 r1 r2 L R =
     neither (is_division op) (is_undef_written left.value) (is_undef_written right.value)
-    (never-true (is_undef_written left.value) (operand-taken false type left t1 r1 L))
-    (never-true (is_undef_written right.value) (operand-taken false type right t2 r2 R))
-
--- no operand of a select is undef as yet
-pub select-spelled : (condition : WrittenOperand) (if_true if_false : WrittenTyped) (t1 t2 t3 r1 r2 r3 : List Lexeme)
-    → Spells true (one (operand_class false (Int one_bit))) condition t1 r1 → Spells true (typed false) if_true t2 r2 → Spells true (typed false) if_false t3 r3
-    → HasWrittenUndefs condition if_true if_false
-select-spelled condition if_true if_false t1 t2 t3 r1 r2 r3 C T F some =
-    elim (one-of (is_undef_written condition.value) (is_undef_written if_true.operand.value) (is_undef_written if_false.operand.value) some) [
-      | inl here ↦ absurd (cc (operand-taken false (Int one_bit) condition t1 r1 C here))
-      | inr (inl here) ↦ absurd (cc (typed-taken false if_true t2 r2 T here))
-      | inr (inr here) ↦ absurd (cc (typed-taken false if_false t3 r3 F here))
-    ]
+    (operand-taken (not (is_division op)) type left t1 r1 L)
+    (operand-taken (not (is_division op)) type right t2 r2 R)
 
 -- ---- what is numbered
 
@@ -150,12 +132,55 @@ typed-numbered names t o after e =
     let is : (let y : TypedOperand = record { of_type = t.of_type.of_type; operand = V.value } in y) ≡ o = cc V.later in
     subst (λ (y : TypedOperand). IsTypedOf t y) is (record { undef = value-numbered names t.operand.value V.value V.mid V.first; type = refl })
 
+-- the same of an arm that is numbered
+abbrev IsIntegerArm : Bool → TypedOperand → Type 0
+IsIntegerArm of_integer t = (of_integer || is_undef t.operand) ≡ true → is_pointer t.of_type ≡ false
+
+-- both arms of a select are integers where the condition is undef, and each where it is undef itself
+abbrev HasIntegerArms : Inst → Type 0
+HasIntegerArms (inst.Select into condition if_true if_false) = IsIntegerArm (is_undef condition) if_true × IsIntegerArm (is_undef condition) if_false
+HasIntegerArms _ = Unit {0}
+
+-- where undef is an operand as far as the grammar says
+abbrev pub FitsArms : Inst → Type 0
+FitsArms i = (divides_undef i ≡ false) × HasIntegerArms i
+
+arm-numbered : (a b : Bool) (t : WrittenTyped) (o : TypedOperand) → a ≡ b → IsTypedOf t o → IsWrittenArm b t → IsIntegerArm a o
+arm-numbered a b t o same is arm undef = let integer = arm (rw (same, is.undef) at undef) in ap is_pointer is.type ∙ integer
+
 pub select-numbered : (into : ℕ) (names n1 n2 n3 : List Name) (condition : WrittenOperand) (if_true if_false : WrittenTyped) (c : Operand) (t f : TypedOperand)
     → value_in names condition.value ≡ so c n1 → typed_in n1 if_true ≡ so t n2 → typed_in n2 if_false ≡ so f n3
-    → HasWrittenUndefs condition if_true if_false → HasIntegerUndefs (inst.Select into c t f)
-select-numbered into names n1 n2 n3 condition if_true if_false c t f C T F undefs some =
-    let undef : is_undef c ≡ is_undef_written condition.value = value-numbered names condition.value c n1 C in
-    let first = typed-numbered n1 if_true t n2 T in
-    let second = typed-numbered n2 if_false f n3 F in
-    let integers = undefs (rw (undef, first.undef, second.undef) at some) in
-    (ap is_pointer first.type ∙ integers.0, ap is_pointer second.type ∙ integers.1)
+    → HasWrittenArms condition if_true if_false → HasIntegerArms (inst.Select into c t f)
+select-numbered into names n1 n2 n3 condition if_true if_false c t f C T F arms =
+    let undef : is_undef c ≡ is_undef_written condition.value = value-numbered names condition.value c n1 C in (
+      arm-numbered (is_undef c) (is_undef_written condition.value) if_true t undef (typed-numbered n1 if_true t n2 T) arms.0,
+      arm-numbered (is_undef c) (is_undef_written condition.value) if_false f undef (typed-numbered n2 if_false f n3 F) arms.1,
+    )
+
+-- ---- with the types of the arms
+
+both-pointers : (a b : IrType) → is_same_type a b ≡ true → is_pointer a ≡ is_pointer b
+both-pointers (Int v) (Int w) e = refl
+both-pointers Ptr Ptr e = refl
+both-pointers (Int v) Ptr e = absurd (cc e)
+both-pointers Ptr (Int w) e = absurd (cc e)
+
+one-of : (a b c : Bool) → (a || (b || (c || false))) ≡ true → (a ≡ true) ⊎ ((b ≡ true) ⊎ (c ≡ true))
+one-of true b c e = inl refl
+one-of false true c e = inr (inl refl)
+one-of false false true e = inr (inr refl)
+one-of false false false e = absurd (cc e)
+
+either-true : (a b : Bool) → b ≡ true → (a || b) ≡ true
+either-true true b e = refl
+either-true false b e = e
+
+-- the arms of a select have the same type, so both are integers where one of its operands is undef
+pub select-integers : (into : ℕ) (c : Operand) (t f : TypedOperand) → is_same_type t.of_type f.of_type ≡ true → HasIntegerArms (inst.Select into c t f) → HasIntegerUndefs (inst.Select into c t f)
+select-integers into c t f e (first, second) some =
+    let same : is_pointer t.of_type ≡ is_pointer f.of_type = both-pointers t.of_type f.of_type e in
+    elim (one-of (is_undef c) (is_undef t.operand) (is_undef f.operand) some) [
+      | inl here ↦ (first (ap (λ b. b || is_undef t.operand) here), second (ap (λ b. b || is_undef f.operand) here))
+      | inr (inl here) ↦ (let integer = first (either-true (is_undef c) (is_undef t.operand) here) in (integer, sym same ∙ integer))
+      | inr (inr here) ↦ (let integer = second (either-true (is_undef c) (is_undef f.operand) here) in (same ∙ integer, integer))
+    ]

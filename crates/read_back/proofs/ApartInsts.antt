@@ -1,6 +1,7 @@
 -- The tokens of printed instructions stay apart.
 use Rattle.read_back.proofs.Common.{◌≡◌, ℕ, ◌+◌, true, false, List, [], ◌∷◌, ◌++◌, Some, refl, flat_map, Contains, AllByRecursion, Width, class_of, one_bit, alignments, Flags, Op, Cast, Predicate, Int, WrittenValue, WrittenAccess, WrittenIndex, WrittenInst, Piece, space, indented, word, number, comma, width_text, type_text, object_pieces, word_if, flag_pieces, op_pieces, predicate_text, cast_pieces, align_pieces}
-use Rattle.std.specs.Prelude.{codes}
+use Rattle.std.specs.Prelude.{Bool, not, codes}
+use Rattle.ir_tree.specs.Carrying.{is_division, is_pointer}
 use Rattle.ir_lexer.specs.declared.token.Kind.TheVariants as kind
 use Rattle.ir_tree.specs.declared.tree.Op.TheVariants as op
 use Rattle.ir_tree.specs.declared.tree.Cast.TheVariants as cast
@@ -57,11 +58,11 @@ cast_links cast.SignExtend = said-links (codes "sext") [] refl nothing-links
 pub comma-links : (ps : List Piece) → Links ps → Links (comma ∷ ps)
 comma-links ps links = free-links comma ps comma-free links
 
-operands_links : (width : Width) (left right : WrittenValue) → FitsValue false (Int width) left → FitsValue false (Int width) right → Links (operand_pieces width left right)
-operands_links width left right l r =
+operands_links : (undef_too : Bool) (width : Width) (left right : WrittenValue) → FitsValue undef_too (Int width) left → FitsValue undef_too (Int width) right → Links (operand_pieces width left right)
+operands_links undef_too width left right l r =
     said-links (width_text width) (value_piece left ∷ comma ∷ value_piece right ∷ []) (width-class width)
-    (free-links (value_piece left) (comma ∷ value_piece right ∷ []) (value-free false (Int width) left l)
-    (comma-links (value_piece right ∷ []) (free-links (value_piece right) [] (value-free false (Int width) right r) nothing-links)))
+    (free-links (value_piece left) (comma ∷ value_piece right ∷ []) (value-free undef_too (Int width) left l)
+    (comma-links (value_piece right ∷ []) (free-links (value_piece right) [] (value-free undef_too (Int width) right r) nothing-links)))
 
 index_links : (i : WrittenIndex) → IsIndex i → Links (index_pieces i)
 index_links i h =
@@ -91,25 +92,25 @@ access_links n (access.Store value to) align h k =
 inst_links : (n : ℕ) (i : WrittenInst) → IsInst n i → Links (inst_pieces i)
 inst_links n (inst.Binary into o type left right) h =
     links-append (result_pieces into) (op_pieces o ++ operand_pieces type.width left.value right.value) (result-links into h.0)
-    (links-append (op_pieces o) (operand_pieces type.width left.value right.value) (op_links o) (operands_links type.width left.value right.value h.1 h.2))
+    (links-append (op_pieces o) (operand_pieces type.width left.value right.value) (op_links o) (operands_links (not (is_division o)) type.width left.value right.value h.1 h.2))
 inst_links n (inst.Icmp into p same_sign type left right) h =
     links-append (result_pieces into) (word space (codes "icmp") ∷ word_if same_sign (codes "samesign") ++ word space (predicate_text p) ∷ operand_pieces type.width left.value right.value) (result-links into h.0)
     (said-links (codes "icmp") (word_if same_sign (codes "samesign") ++ word space (predicate_text p) ∷ operand_pieces type.width left.value right.value) refl
     (links-append (word_if same_sign (codes "samesign")) (word space (predicate_text p) ∷ operand_pieces type.width left.value right.value) (word_if-links same_sign (codes "samesign") refl)
-    (said-links (predicate_text p) (operand_pieces type.width left.value right.value) (predicate_class p) (operands_links type.width left.value right.value h.1 h.2))))
+    (said-links (predicate_text p) (operand_pieces type.width left.value right.value) (predicate_class p) (operands_links true type.width left.value right.value h.1 h.2))))
 inst_links n (inst.Cast into c from o to) h =
     links-append (result_pieces into) (cast_pieces c ++ word space (width_text from.width) ∷ value_piece o.value ∷ word space (codes "to") ∷ word space (width_text to.width) ∷ []) (result-links into h.0)
     (links-append (cast_pieces c) (word space (width_text from.width) ∷ value_piece o.value ∷ word space (codes "to") ∷ word space (width_text to.width) ∷ []) (cast_links c)
     (said-links (width_text from.width) (value_piece o.value ∷ word space (codes "to") ∷ word space (width_text to.width) ∷ []) (width-class from.width)
-    (free-links (value_piece o.value) (word space (codes "to") ∷ word space (width_text to.width) ∷ []) (value-free false (Int from.width) o.value h.1)
+    (free-links (value_piece o.value) (word space (codes "to") ∷ word space (width_text to.width) ∷ []) (value-free true (Int from.width) o.value h.1)
     (said-links (codes "to") (word space (width_text to.width) ∷ []) refl (said-links (width_text to.width) [] (width-class to.width) nothing-links)))))
 inst_links n (inst.Select into bit condition if_true if_false) h =
     links-append (result_pieces into) (word space (codes "select") ∷ word space (codes "i1") ∷ value_piece condition.value ∷ comma ∷ (typed_pieces if_true ++ comma ∷ typed_pieces if_false)) (result-links into h.0)
     (said-links (codes "select") (word space (codes "i1") ∷ value_piece condition.value ∷ comma ∷ (typed_pieces if_true ++ comma ∷ typed_pieces if_false)) refl
     (said-links (codes "i1") (value_piece condition.value ∷ comma ∷ (typed_pieces if_true ++ comma ∷ typed_pieces if_false)) refl
-    (free-links (value_piece condition.value) (comma ∷ (typed_pieces if_true ++ comma ∷ typed_pieces if_false)) (value-free false (Int one_bit) condition.value h.1)
+    (free-links (value_piece condition.value) (comma ∷ (typed_pieces if_true ++ comma ∷ typed_pieces if_false)) (value-free true (Int one_bit) condition.value h.1)
     (comma-links (typed_pieces if_true ++ comma ∷ typed_pieces if_false)
-    (links-append (typed_pieces if_true) (comma ∷ typed_pieces if_false) (typed-links false if_true h.2) (comma-links (typed_pieces if_false) (typed-links false if_false h.3)))))))
+    (links-append (typed_pieces if_true) (comma ∷ typed_pieces if_false) (typed-links (not (is_pointer if_true.of_type.of_type)) if_true h.2.value) (comma-links (typed_pieces if_false) (typed-links (not (is_pointer if_false.of_type.of_type)) if_false h.3.value)))))))
 inst_links n (inst.Freeze into t) h =
     links-append (result_pieces into) (word space (codes "freeze") ∷ typed_pieces t) (result-links into h.0)
     (said-links (codes "freeze") (typed_pieces t) refl (typed-links true t h.1))

@@ -1,9 +1,10 @@
 -- Operands, types, and the parts of instructions that one token is.
-use Rattle.read_back.proofs.Common.{◌≡◌, ℕ, ◌-◌, ◌<◌, ◌≤◌, ◌^◌, Bool, true, false, cond, List, drop, Option, Some, None, codes, refl, ap, subst, arith, ◌&&◌, ◌==◌, bytes_eq, ltb-true, pow_pos, pow_below, mod_below, Place, Width, Lexeme, Kind, name_of, IrType, Int, Ptr, WrittenType, WrittenValue, WrittenOperand, WrittenLiteral, WrittenTyped, is_negative, magnitude, in_range, wrapped, truth_value, literal_value, literal_of, word_of_type, word_value, number_value, literal_at, operand_at, fits_bits, fits_type, is_memory_type, memory_type_of, memory_type_in, type_in, type_at, is_pointer, pointer_in, operand_class, literal_class, pointer_type, typed, pointer}
+use Rattle.read_back.proofs.Common.{◌≡◌, ℕ, ◌-◌, ◌<◌, ◌≤◌, ◌^◌, Bool, true, false, cond, List, drop, Option, Some, None, codes, refl, sym, ap, subst, arith, ◌&&◌, not, ◌==◌, bytes_eq, ltb-true, pow_pos, pow_below, mod_below, Place, Width, Lexeme, Kind, name_of, IrType, Int, Ptr, WrittenType, WrittenValue, WrittenOperand, WrittenLiteral, WrittenTyped, is_negative, magnitude, in_range, wrapped, truth_value, literal_value, literal_of, word_of_type, word_value, number_value, literal_at, operand_at, fits_bits, fits_type, is_memory_type, memory_type_of, memory_type_in, type_in, type_at, is_pointer, pointer_in, operand_class, literal_class, pointer_type, typed, arm, pointer}
 use Rattle.ir_lexer.specs.declared.token.Kind.TheVariants as kind
+use Rattle.ir_tree.specs.Carrying.{is_pointer as is_arm_pointer}
 use Rattle.ir_words.specs.declared.written.WrittenValue.TheVariants as value
 use Rattle.ir_words.specs.Spelling.{value_in}
-use Rattle.read_back.proofs.Spellable.{FitsValue, IsTyped, IsPointer}
+use Rattle.read_back.proofs.Spellable.{FitsValue, IsTyped, IsArm, IsPointer}
 use Rattle.read_back.proofs.FitsForms.{Stands, Gives}
 use Rattle.read_back.proofs.FitsNames.{AreBytes, local-is}
 
@@ -115,6 +116,13 @@ pointer-fits x S = pointer-of (is_pointer S.token) x.of_type (type-at (pointer_i
 pub typed-gives : (undef_too : Bool) (t : WrittenTyped) → Gives (typed undef_too) t → IsTyped undef_too t
 unfolding typed
 typed-gives undef_too t (type, T, (o, O, same)) = subst (λ (u : WrittenTyped). IsTyped undef_too u) same (operand-fits undef_too type.of_type o O)
+
+pub arm-gives : (of_integer : Bool) (t : WrittenTyped) → Gives (arm of_integer) t → IsArm of_integer t
+unfolding arm
+arm-gives false t (type, T, (o, O, same)) =
+    subst (λ (u : WrittenTyped). IsArm false u) same (record { type = λ e. absurd (cc e); value = operand-fits (not (is_arm_pointer type.of_type)) type.of_type o O })
+arm-gives true t (type, (w, W, is), (o, O, same)) =
+    subst (λ (u : WrittenTyped). IsArm true u) same (record { type = λ e. ap (λ (y : WrittenType). is_arm_pointer y.of_type) (sym is); value = operand-fits (not (is_arm_pointer type.of_type)) type.of_type o O })
 
 pub pointer-gives : (t : WrittenTyped) → Gives pointer t → IsPointer t
 unfolding pointer

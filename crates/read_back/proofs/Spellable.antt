@@ -1,10 +1,12 @@
 -- What holds of each function that some tokens spell, apart from those tokens.
-use Rattle.read_back.proofs.Common.{◌≡◌, ◌<◌, ◌≤◌, ◌+◌, ◌^◌, ℕ, List, [], ◌∷◌, length, Bool, true, false, Option, Some, None, All, AllByRecursion, Contains, is_digits, without_zeros, one_bit, alignments, Name, IrType, Int, Ptr, MemoryType, WrittenName, WrittenValue, WrittenTyped, WrittenParameter, GepFlags, WrittenAccess, WrittenIndex, WrittenInst, WrittenEntry, WrittenPhi, WrittenCase, WrittenReturn, Void, Value, WrittenTerminator, WrittenBody, WrittenBlock, WrittenFunction, is_memory_type, is_pointer_type, is_small_object}
+use Rattle.read_back.proofs.Common.{◌≡◌, ◌<◌, ◌≤◌, ◌+◌, ◌^◌, ℕ, List, [], ◌∷◌, length, Bool, true, false, not, Option, Some, None, All, AllByRecursion, Contains, is_digits, without_zeros, one_bit, alignments, Name, IrType, Int, Ptr, MemoryType, WrittenName, WrittenValue, WrittenTyped, WrittenParameter, GepFlags, WrittenAccess, WrittenIndex, WrittenInst, WrittenEntry, WrittenPhi, WrittenCase, WrittenReturn, Void, Value, WrittenTerminator, WrittenBody, WrittenBlock, WrittenFunction, is_memory_type, is_pointer_type, is_small_object}
+use Rattle.ir_tree.specs.Carrying.{is_division, is_pointer}
 use Rattle.ir_tree.specs.declared.name.Name.TheVariants as name
 use Rattle.ir_words.specs.declared.written.WrittenValue.TheVariants as value
 use Rattle.ir_words.specs.declared.written.WrittenAccess.TheVariants as access
 use Rattle.ir_words.specs.declared.written.WrittenInst.TheVariants as inst
 use Rattle.ir_words.specs.declared.written.WrittenTerminator.TheVariants as end
+use Rattle.ir_grammar.specs.Instructions.{is_undef}
 
 -- digits without leading zeros, or bytes
 abbrev pub IsName : Name → Type 0
@@ -29,6 +31,11 @@ FitsValue undef_too type value.Undef = undef_too ≡ true
 
 abbrev pub IsTyped : Bool → WrittenTyped → Type 0
 IsTyped undef_too t = FitsValue undef_too t.of_type.of_type t.operand.value
+
+-- an arm of a select, an integer where it has to be one, and where it is undef
+pub record IsArm (of_integer : Bool) (t : WrittenTyped) : Type 0 where
+  pub type : of_integer ≡ true → is_pointer t.of_type.of_type ≡ false
+  pub value : IsTyped (not (is_pointer t.of_type.of_type)) t
 
 pub record IsPointer (t : WrittenTyped) : Type 0 where
   pub type : t.of_type.of_type ≡ Ptr
@@ -56,10 +63,10 @@ AreFlags flags = flags.nuw ≡ true → flags.inbounds ≡ true
 
 -- the instruction of this number
 abbrev pub IsInst : ℕ → WrittenInst → Type 0
-IsInst n (inst.Binary into o type left right) = IsName into.name × FitsValue false (Int type.width) left.value × FitsValue false (Int type.width) right.value
-IsInst n (inst.Icmp into p same_sign type left right) = IsName into.name × FitsValue false (Int type.width) left.value × FitsValue false (Int type.width) right.value
-IsInst n (inst.Cast into c from o to) = IsName into.name × FitsValue false (Int from.width) o.value
-IsInst n (inst.Select into bit condition if_true if_false) = IsName into.name × FitsValue false (Int one_bit) condition.value × IsTyped false if_true × IsTyped false if_false
+IsInst n (inst.Binary into o type left right) = IsName into.name × FitsValue (not (is_division o)) (Int type.width) left.value × FitsValue (not (is_division o)) (Int type.width) right.value
+IsInst n (inst.Icmp into p same_sign type left right) = IsName into.name × FitsValue true (Int type.width) left.value × FitsValue true (Int type.width) right.value
+IsInst n (inst.Cast into c from o to) = IsName into.name × FitsValue true (Int from.width) o.value
+IsInst n (inst.Select into bit condition if_true if_false) = IsName into.name × FitsValue true (Int one_bit) condition.value × IsArm (is_undef condition.value) if_true × IsArm (is_undef condition.value) if_false
 IsInst n (inst.Freeze into t) = IsName into.name × IsTyped true t
 IsInst n (inst.Access a align) = IsAccess n a × Contains alignments align
 IsInst n (inst.GetElementPtr g) = IsName g.into.name × AreFlags g.flags × IsObject false g.of_type.of_type × IsPointer g.base × AllByRecursion IsIndex g.indices

@@ -1,5 +1,6 @@
 -- Printed instructions whose lines end without a comma are spelled.
-use Rattle.read_back.proofs.Common.{◌≡◌, ℕ, Bool, true, false, List, [], ◌∷◌, ◌++◌, Some, refl, ap, ◌∙◌, codes, bytes_eq, Place, Lexeme, no_place, one_bit, Int, Flags, Op, Cast, Predicate, Opcode, WrittenName, WrittenIntType, WrittenOperand, WrittenTyped, WrittenInst, WrittenLine, wrapping_op, exact_op, or_word, memory_word, inst_word, opcode_named, comparison, wrapping, exact, plain, disjunction, icmp, cast_by, truncate, zero_extend, sign_extend, select, freeze, inst_by, line_named, Form, seq, Piece, space, comma, width_text, word_if, flag_pieces, op_pieces, predicate_text, cast_pieces}
+use Rattle.read_back.proofs.Common.{◌≡◌, ℕ, Bool, true, false, List, [], ◌∷◌, ◌++◌, Some, refl, ap, ◌∙◌, codes, not, bytes_eq, Place, Lexeme, no_place, one_bit, Int, Flags, Op, Cast, Predicate, Opcode, WrittenName, WrittenIntType, WrittenOperand, WrittenTyped, WrittenInst, WrittenLine, wrapping_op, exact_op, or_word, memory_word, inst_word, opcode_named, comparison, wrapping, exact, plain, disjunction, icmp, cast_by, truncate, zero_extend, sign_extend, select, freeze, inst_by, line_named, Form, seq, Piece, space, comma, width_text, word_if, flag_pieces, op_pieces, predicate_text, cast_pieces}
+use Rattle.ir_tree.specs.Carrying.{is_division}
 use Rattle.ir_tree.specs.declared.tree.Op.TheVariants as op
 use Rattle.ir_tree.specs.declared.tree.Cast.TheVariants as cast
 use Rattle.ir_words.specs.declared.word.Flag.TheVariants as flag
@@ -11,14 +12,14 @@ use Rattle.ir_words.specs.declared.word.Opcode.TheVariants as opcode
 use Rattle.ir_words.specs.declared.word.LineWord.TheVariants as word_of
 use Rattle.ir_words.specs.declared.written.WrittenInst.TheVariants as inst
 use Rattle.ir_words.specs.declared.written.WrittenLine.TheVariants as line
-use Rattle.ir_grammar.specs.Instructions.{inst_line}
+use Rattle.ir_grammar.specs.Instructions.{inst_line, is_undef}
 use Rattle.ir_printer.specs.Pieces as piece
 use Rattle.read_back.proofs.Written.{value_piece, typed_pieces, operand_pieces}
 use Rattle.read_back.proofs.Placeless.{name_of, operand_of, inst_of}
-use Rattle.read_back.proofs.Spellable.{FitsValue, IsTyped}
+use Rattle.read_back.proofs.Spellable.{FitsValue, IsTyped, IsArm}
 use Rattle.read_back.proofs.SpelledTokens.{IsSpelled, spelled-give, one-then, seq-then, seq-last, seq-is, upto-is, peek-first, peek-second}
 use Rattle.read_back.proofs.SpelledClasses.{a_width, a_value, width-reads, value-reads, bit-reads, predicate-reads, line-reads}
-use Rattle.read_back.proofs.SpelledOperands.{word-reads, word-then, mark-then, typed-spelled, binary-spelled, wraps-spelled, flagged-then}
+use Rattle.read_back.proofs.SpelledOperands.{word-reads, word-then, mark-then, typed-spelled, arm-spelled, binary-spelled, wraps-spelled, flagged-then}
 
 pub same-both : {A B C : Type 0} (f : A → B → C) {a x : A} {b y : B} → a ≡ x → b ≡ y → f a b ≡ f x y
 same-both f {a = a} {y = y} e e' = ap (f a) e' ∙ ap (λ z. f z y) e
@@ -26,8 +27,8 @@ same-both f {a = a} {y = y} e e' = ap (f a) e' ∙ ap (λ z. f z y) e
 -- ---- after the word
 
 wrapping-spelled : (name : WrittenName) (w : WrapWord) (flags : Flags) (type : WrittenIntType)
-    (left right : WrittenOperand) → FitsValue false (Int type.width) left.value
-    → FitsValue false (Int type.width) right.value
+    (left right : WrittenOperand) → FitsValue (not (is_division (wrapping_op w flags))) (Int type.width) left.value
+    → FitsValue (not (is_division (wrapping_op w flags))) (Int type.width) right.value
     → IsSpelled (wrapping name w)
     (flag_pieces flags ++ operand_pieces type.width left.value right.value)
     (λ i. inst_of i ≡ inst_of (inst.Binary name (wrapping_op w flags) type left right))
@@ -40,8 +41,8 @@ wrapping-spelled name w flags type left right l r =
     (λ at. binary-spelled name (wrapping_op w flags) (a_width type.width at) left right l r)
 
 exact-spelled : (name : WrittenName) (w : ExactWord) (on : Bool) (type : WrittenIntType)
-    (left right : WrittenOperand) → FitsValue false (Int type.width) left.value
-    → FitsValue false (Int type.width) right.value
+    (left right : WrittenOperand) → FitsValue (not (is_division (exact_op w on))) (Int type.width) left.value
+    → FitsValue (not (is_division (exact_op w on))) (Int type.width) right.value
     → IsSpelled (exact name w)
     (word_if on (codes "exact") ++ operand_pieces type.width left.value right.value)
     (λ i. inst_of i ≡ inst_of (inst.Binary name (exact_op w on) type left right))
@@ -51,8 +52,8 @@ exact-spelled name w on type left right l r =
     (λ at. binary-spelled name (exact_op w on) (a_width type.width at) left right l r)
 
 disjunction-spelled : (name : WrittenName) (on : Bool) (type : WrittenIntType)
-    (left right : WrittenOperand) → FitsValue false (Int type.width) left.value
-    → FitsValue false (Int type.width) right.value
+    (left right : WrittenOperand) → FitsValue true (Int type.width) left.value
+    → FitsValue true (Int type.width) right.value
     → IsSpelled (disjunction name)
     (word_if on (codes "disjoint") ++ operand_pieces type.width left.value right.value)
     (λ i. inst_of i ≡ inst_of (inst.Binary name (op.Or on) type left right))
@@ -62,7 +63,7 @@ disjunction-spelled name on type left right l r =
     (λ at. binary-spelled name (op.Or on) (a_width type.width at) left right l r)
 
 plain-spelled : (name : WrittenName) (o : Op) (type : WrittenIntType) (left right : WrittenOperand)
-    → FitsValue false (Int type.width) left.value → FitsValue false (Int type.width) right.value
+    → FitsValue (not (is_division o)) (Int type.width) left.value → FitsValue (not (is_division o)) (Int type.width) right.value
     → IsSpelled (plain name o) (operand_pieces type.width left.value right.value)
     (λ i. inst_of i ≡ inst_of (inst.Binary name o type left right))
 unfolding plain
@@ -94,8 +95,8 @@ comparison-then {qs = qs} false p next =
     (comparison-spelled false p) (λ at. next)
 
 icmp-spelled : (name : WrittenName) (p : Predicate) (same_sign : Bool) (type : WrittenIntType)
-    (left right : WrittenOperand) → FitsValue false (Int type.width) left.value
-    → FitsValue false (Int type.width) right.value
+    (left right : WrittenOperand) → FitsValue true (Int type.width) left.value
+    → FitsValue true (Int type.width) right.value
     → IsSpelled (icmp name)
     (word_if same_sign (codes "samesign") ++ piece.word space
     (predicate_text p) ∷ operand_pieces type.width left.value right.value)
@@ -104,19 +105,19 @@ unfolding icmp
 icmp-spelled name p same_sign type left right l r =
     comparison-then same_sign p (
     one-then (a_width type.width) (width-reads space type.width) (λ at.
-    one-then (a_value left.value) (value-reads false (Int type.width) left.value l) (λ at'.
+    one-then (a_value left.value) (value-reads true (Int type.width) left.value l) (λ at'.
     mark-then (
-    one-then (a_value right.value) (value-reads false (Int type.width) right.value r) (λ at''.
+    one-then (a_value right.value) (value-reads true (Int type.width) right.value r) (λ at''.
     spelled-give refl)))))
 
 cast-spelled : (name : WrittenName) (c : Cast) (from : WrittenIntType) (o : WrittenOperand)
-    (to : WrittenIntType) → FitsValue false (Int from.width) o.value
+    (to : WrittenIntType) → FitsValue true (Int from.width) o.value
     → IsSpelled (cast_by name c from)
     (value_piece o.value ∷ piece.word space (codes "to") ∷ piece.word space
     (width_text to.width) ∷ []) (λ i. inst_of i ≡ inst_of (inst.Cast name c from o to))
 unfolding cast_by
 cast-spelled name c from o to fits =
-    one-then (a_value o.value) (value-reads false (Int from.width) o.value fits) (λ at.
+    one-then (a_value o.value) (value-reads true (Int from.width) o.value fits) (λ at.
     word-then (
     one-then (a_width to.width) (width-reads space to.width) (λ at'.
     spelled-give refl)))
@@ -127,7 +128,7 @@ cast_end from o to =
     (codes "to") ∷ piece.word space (width_text to.width) ∷ []
 
 truncate-spelled : (name : WrittenName) (flags : Flags) (from : WrittenIntType) (o : WrittenOperand)
-    (to : WrittenIntType) → FitsValue false (Int from.width) o.value
+    (to : WrittenIntType) → FitsValue true (Int from.width) o.value
     → IsSpelled (truncate name) (flag_pieces flags ++ cast_end from o to)
     (λ i. inst_of i ≡ inst_of (inst.Cast name (cast.Truncate flags) from o to))
 unfolding truncate
@@ -139,7 +140,7 @@ truncate-spelled name flags from o to fits =
     (λ at. cast-spelled name (cast.Truncate flags) (a_width from.width at) o to fits)
 
 zero-extend-spelled : (name : WrittenName) (on : Bool) (from : WrittenIntType) (o : WrittenOperand)
-    (to : WrittenIntType) → FitsValue false (Int from.width) o.value
+    (to : WrittenIntType) → FitsValue true (Int from.width) o.value
     → IsSpelled (zero_extend name) (word_if on (codes "nneg") ++ cast_end from o to)
     (λ i. inst_of i ≡ inst_of (inst.Cast name (cast.ZeroExtend on) from o to))
 unfolding zero_extend
@@ -148,7 +149,7 @@ zero-extend-spelled name on from o to fits =
     (λ at. cast-spelled name (cast.ZeroExtend on) (a_width from.width at) o to fits)
 
 sign-extend-spelled : (name : WrittenName) (from : WrittenIntType) (o : WrittenOperand)
-    (to : WrittenIntType) → FitsValue false (Int from.width) o.value
+    (to : WrittenIntType) → FitsValue true (Int from.width) o.value
     → IsSpelled (sign_extend name) (cast_end from o to)
     (λ i. inst_of i ≡ inst_of (inst.Cast name cast.SignExtend from o to))
 unfolding sign_extend
@@ -157,8 +158,8 @@ sign-extend-spelled name from o to fits =
     (λ at. cast-spelled name cast.SignExtend (a_width from.width at) o to fits)
 
 select-spelled : (name : WrittenName) (bit : Place) (condition : WrittenOperand)
-    (if_true if_false : WrittenTyped) → FitsValue false (Int one_bit) condition.value
-    → IsTyped false if_true → IsTyped false if_false
+    (if_true if_false : WrittenTyped) → FitsValue true (Int one_bit) condition.value
+    → IsArm (is_undef condition.value) if_true → IsArm (is_undef condition.value) if_false
     → IsSpelled (select name)
     (piece.word space
     (codes "i1") ∷ value_piece condition.value ∷ comma
@@ -167,12 +168,12 @@ select-spelled : (name : WrittenName) (bit : Place) (condition : WrittenOperand)
 unfolding select
 select-spelled name bit condition if_true if_false c a b =
     one-then (λ at. at) (bit-reads space) (λ at.
-    one-then (a_value condition.value) (value-reads false (Int one_bit) condition.value c) (λ at'.
+    one-then (a_value condition.value) (value-reads true (Int one_bit) condition.value c) (λ at'.
     mark-then (
-    seq-then (typed_pieces if_true) (comma ∷ typed_pieces if_false) (typed-spelled false if_true a)
+    seq-then (typed_pieces if_true) (comma ∷ typed_pieces if_false) (arm-spelled (is_undef condition.value) if_true a)
     (λ x e.
     mark-then (
-    seq-last (typed-spelled false if_false b) (λ y e'.
+    seq-last (arm-spelled (is_undef condition.value) if_false b) (λ y e'.
     spelled-give
     (same-both
     (λ (u v : WrittenTyped). inst.Select (name_of name) no_place (operand_of condition) u v)
@@ -206,8 +207,8 @@ inst-then phi_too n name text o no_phi is found =
     seq-last found (λ i e. spelled-give (record { inst = i; is = refl; same = e }))))
 
 pub binary-line : (phi_too : Bool) (n : ℕ) (name : WrittenName) (o : Op) (type : WrittenIntType)
-    (left right : WrittenOperand) → FitsValue false (Int type.width) left.value
-    → FitsValue false (Int type.width) right.value
+    (left right : WrittenOperand) → FitsValue (not (is_division o)) (Int type.width) left.value
+    → FitsValue (not (is_division o)) (Int type.width) right.value
     → IsSpelled (line_named phi_too n name)
     (piece.mark space
     (codes "=") ∷ (op_pieces o ++ operand_pieces type.width left.value right.value))
@@ -254,7 +255,7 @@ binary-line phi_too n name op.Xor type left right l r =
 
 pub icmp-line : (phi_too : Bool) (n : ℕ) (name : WrittenName) (p : Predicate) (same_sign : Bool)
     (type : WrittenIntType) (left right : WrittenOperand)
-    → FitsValue false (Int type.width) left.value → FitsValue false (Int type.width) right.value
+    → FitsValue true (Int type.width) left.value → FitsValue true (Int type.width) right.value
     → IsSpelled (line_named phi_too n name)
     (piece.mark space (codes "=") ∷ piece.word space
     (codes "icmp") ∷ (word_if same_sign (codes "samesign") ++ piece.word space
@@ -265,7 +266,7 @@ icmp-line phi_too n name p same_sign type left right l r =
     (icmp-spelled name p same_sign type left right l r)
 
 pub cast-line : (phi_too : Bool) (n : ℕ) (name : WrittenName) (c : Cast) (from : WrittenIntType)
-    (o : WrittenOperand) (to : WrittenIntType) → FitsValue false (Int from.width) o.value
+    (o : WrittenOperand) (to : WrittenIntType) → FitsValue true (Int from.width) o.value
     → IsSpelled (line_named phi_too n name)
     (piece.mark space (codes "=") ∷ (cast_pieces c ++ cast_end from o to))
     (IsInstLine (inst_of (inst.Cast name c from o to)))
@@ -281,7 +282,7 @@ cast-line phi_too n name cast.SignExtend from o to fits =
 
 pub select-line : (phi_too : Bool) (n : ℕ) (name : WrittenName) (bit : Place)
     (condition : WrittenOperand) (if_true if_false : WrittenTyped)
-    → FitsValue false (Int one_bit) condition.value → IsTyped false if_true → IsTyped false if_false
+    → FitsValue true (Int one_bit) condition.value → IsArm (is_undef condition.value) if_true → IsArm (is_undef condition.value) if_false
     → IsSpelled (line_named phi_too n name)
     (piece.mark space (codes "=") ∷ piece.word space (codes "select") ∷ piece.word space
     (codes "i1") ∷ value_piece condition.value ∷ comma

@@ -1,13 +1,15 @@
 -- Printed operands are spelled.
-use Rattle.read_back.proofs.Common.{◌≡◌, ℕ, Bool, true, false, List, [], ◌∷◌, ◌++◌, Some, refl, codes, Place, Lexeme, Int, Ptr, Flags, Op, Width, WrittenIntType, WrittenTyped, WrittenOperand, WrittenName, is_word_of, is_mark_of, flag_text, passed, flag_fits, is_wrap, wraps, flagged_type, typed, pointer, binary, Form, never, one, seq, Piece, space, comma, width_text, word_if, flag_pieces}
+use Rattle.read_back.proofs.Common.{◌≡◌, ℕ, Bool, true, false, List, [], ◌∷◌, ◌++◌, Some, refl, codes, not, Place, Lexeme, no_place, IrType, Int, Ptr, Flags, Op, Width, WrittenIntType, WrittenTyped, WrittenOperand, WrittenValue, WrittenName, is_word_of, is_mark_of, flag_text, passed, flag_fits, is_wrap, wraps, flagged_type, typed, arm, pointer, binary, Form, never, one, seq, Piece, space, comma, width_text, type_text, word_if, flag_pieces}
 use Rattle.ir_lexer.specs.declared.token.Kind.TheVariants as kind
+use Rattle.ir_tree.specs.Carrying.{is_division, is_pointer}
 use Rattle.ir_words.specs.declared.word.Flag.{Flag}
 use Rattle.ir_words.specs.declared.written.WrittenInst.TheVariants as inst
 use Rattle.ir_grammar.specs.Classes.{word, mark}
+use Rattle.ir_grammar.specs.Instructions.{arm_type}
 use Rattle.ir_printer.specs.Pieces as piece
 use Rattle.read_back.proofs.Written.{value_piece, typed_pieces, pointer_pieces}
 use Rattle.read_back.proofs.Placeless.{typed_of, inst_of}
-use Rattle.read_back.proofs.Spellable.{FitsValue, IsTyped, IsPointer}
+use Rattle.read_back.proofs.Spellable.{FitsValue, IsTyped, IsArm, IsPointer}
 use Rattle.read_back.proofs.SpelledTokens.{Reads, IsSpelled, spelled-give, one-then, seq-is, peek-first, peek-second, tail-from, flag-more, no-more}
 use Rattle.read_back.proofs.SpelledClasses.{a_width, a_type, a_value, width-reads, type-reads, value-reads, pointer-reads}
 
@@ -43,6 +45,34 @@ typed-spelled undef_too t fits =
     (value-reads undef_too t.of_type.of_type t.operand.value fits) (λ at'.
     spelled-give refl))
 
+integer-type-spelled : (w : Width) → IsSpelled (arm_type true) (piece.word space (width_text w) ∷ [])
+    (λ x. (at : Place) × (x ≡ a_type (Int w) at))
+integer-type-spelled w =
+    one-then (a_width w) (width-reads space w) (λ at. spelled-give (at, refl))
+
+integer-arm-spelled : (type : IrType) (v : WrittenValue) → is_pointer type ≡ false
+    → FitsValue (not (is_pointer type)) type v
+    → IsSpelled (arm true) (piece.word space (type_text type) ∷ value_piece v ∷ [])
+    (λ t. typed_of t ≡ typed_of
+    (record { of_type = a_type type no_place; operand = a_value v no_place }))
+unfolding arm
+integer-arm-spelled (Int w) v e fits =
+    seq-is (λ at. a_type (Int w) at) (piece.word space (width_text w) ∷ []) (value_piece v ∷ [])
+    (integer-type-spelled w) (λ at.
+    one-then (a_value v) (value-reads true (Int w) v fits) (λ at'. spelled-give refl))
+integer-arm-spelled Ptr v e fits = absurd (cc e)
+
+pub arm-spelled : (of_integer : Bool) (t : WrittenTyped) → IsArm of_integer t
+    → IsSpelled (arm of_integer) (typed_pieces t) (λ t'. typed_of t' ≡ typed_of t)
+unfolding arm
+arm-spelled false t is =
+    one-then (a_type t.of_type.of_type) (type-reads space true t.of_type.of_type refl) (λ at.
+    one-then (a_value t.operand.value)
+    (value-reads (not (is_pointer t.of_type.of_type)) t.of_type.of_type t.operand.value is.value)
+    (λ at'. spelled-give refl))
+arm-spelled true t is =
+    integer-arm-spelled t.of_type.of_type t.operand.value (is.type refl) is.value
+
 -- its value, which was ptr before it
 pointer-same : (t : WrittenTyped) (type : t.of_type.of_type ≡ Ptr) (at at' : Place)
     → typed_of
@@ -58,15 +88,16 @@ pointer-spelled t is =
     spelled-give (pointer-same t is.type at at')))
 
 pub binary-spelled : (name : WrittenName) (o : Op) (type : WrittenIntType)
-    (left right : WrittenOperand) → FitsValue false (Int type.width) left.value
-    → FitsValue false (Int type.width) right.value
+    (left right : WrittenOperand) → FitsValue (not (is_division o)) (Int type.width) left.value
+    → FitsValue (not (is_division o)) (Int type.width) right.value
     → IsSpelled (binary name o type) (value_piece left.value ∷ comma ∷ value_piece right.value ∷ [])
     (λ i. inst_of i ≡ inst_of (inst.Binary name o type left right))
 unfolding binary
 binary-spelled name o type left right fits fits' =
-    one-then (a_value left.value) (value-reads false (Int type.width) left.value fits) (λ at.
+    let undef_too : Bool = not (is_division o) in
+    one-then (a_value left.value) (value-reads undef_too (Int type.width) left.value fits) (λ at.
     mark-then (
-    one-then (a_value right.value) (value-reads false (Int type.width) right.value fits') (λ at'.
+    one-then (a_value right.value) (value-reads undef_too (Int type.width) right.value fits') (λ at'.
     spelled-give refl)))
 
 -- ---- flags

@@ -47,4 +47,6 @@ mod token_lists;
 #[cfg(test)]
 mod undef_functions;
 #[cfg(test)]
+mod undef_operand_tests;
+#[cfg(test)]
 mod undef_tests;

@@ -2,7 +2,7 @@
 //! the text, the parameters and the block's label first; those behind them are the registers that
 //! trees are computed in.
 use crate::expecting::expect;
-use crate::undef_functions::function_in;
+use crate::made_functions::function_of;
 use ir_tree::{Function, Inst, Operand, Terminator, TypedOperand, are_numbered, sites_of};
 use lowering::lower;
 use std::alloc::Global;
@@ -109,22 +109,22 @@ fn lowered_of(alloc: Global, f: &Function) -> Result<Option<Function>, Fail> {
 
 /// The function that is run, `None` where it is the one that was read.
 fn lowered(alloc: Global, text: &str) -> Result<Option<Function>, Fail> {
-    let f = function_in(alloc, text)?;
+    let f = function_of(alloc, text)?;
     lowered_of(alloc, &f)
 }
 
 const ROWS: &str = "\
 %3 = freeze undef; %3 = binary %3 0; %4 = freeze undef; %4 = binary %4 0; %3 = binary %3 %4; ret %3
-define i8 @f() { l: %a = add i8 poison, 0 %b = sub i8 %a, %a ret i8 %b }
+define i8 @f() { l: %a = add i8 undef, 0 %b = sub i8 %a, %a ret i8 %b }
 
 %5 = freeze undef; %5 = binary %0 %5; %6 = freeze undef; %6 = binary %0 %6; %5 = binary %5 %6; %4 = freeze %5; ret %4
-define i8 @f(i8 %x) { l: %a = and i8 %x, poison %b = xor i8 %a, %a %c = freeze i8 %b ret i8 %c }
+define i8 @f(i8 %x) { l: %a = and i8 %x, undef %b = xor i8 %a, %a %c = freeze i8 %b ret i8 %c }
 
 %5 = freeze undef; %5 = icmp %5 %0; %6 = freeze undef; %5 = select %5 %0 %6; %5 = cast %5; ret %5
-define i4 @f(i8 %x) { l: %c = icmp eq i8 poison, %x %s = select i1 %c, i8 %x, i8 poison %t = trunc i8 %s to i4 ret i4 %t }
+define i4 @f(i8 %x) { l: %c = icmp eq i8 undef, %x %s = select i1 %c, i8 %x, i8 undef %t = trunc i8 %s to i4 ret i4 %t }
 
 %2 = binary %0 1; %5 = freeze undef; %5 = binary %5 %2; %4 = freeze %5; ret %4
-define i8 @f(i8 %x) { l: %b = add i8 %x, 1 %a = add i8 poison, %b %c = freeze i8 %a ret i8 %c }";
+define i8 @f(i8 %x) { l: %b = add i8 %x, 1 %a = add i8 undef, %b %c = freeze i8 %a ret i8 %c }";
 
 fn is_lowered(alloc: Global, row: &str) -> Result<(), Fail> {
     let (wanted, text) = row.split_once("\n").ok_or("a text")?;

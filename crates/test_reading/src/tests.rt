@@ -156,8 +156,8 @@ define i8 @f(void %x) { ret i8 0 }
 Unsupported@1:33
 define i1 @f(i8 %x) { %r = icmp lt i8 %x, 1 ret i1 %r }
 
-Unsupported@1:30
-define i8 @f() { %r = add i8 undef, 1 ret i8 %r }
+Unsupported@1:31
+define i8 @f() { %r = udiv i8 undef, 1 ret i8 %r }
 
 Unsupported@1:25
 define i8 @f() { ret i8 true }

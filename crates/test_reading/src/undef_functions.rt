@@ -1,5 +1,6 @@
-//! Functions whose registers carry undef. In their texts each `poison` that is an operand of a binary
-//! operation, an icmp, a cast or a select stands for `undef`.
+//! Functions whose registers carry undef, also such as the reader refuses before it looks at uses. In
+//! their texts each `poison` that is an operand of a binary operation, an icmp, a cast or a select
+//! stands for `undef`.
 use crate::made_functions::function_of;
 use ir_tree::{Block, Function, Inst, Operand, TypedOperand};
 use std::alloc::Global;

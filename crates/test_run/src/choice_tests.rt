@@ -1,5 +1,5 @@
-//! Pairs with choices: `freeze` of poison and `undef`. The target may only choose what the source
-//! can.
+//! Pairs with choices: `freeze` of poison and `undef`, and registers that are made from `undef`. The
+//! target may only choose what the source can.
 
 use crate::asking::are_answered;
 use std::test::*;
@@ -247,6 +247,201 @@ tv 1 turns 4 blocks 2 bytes 8 rounds 64 conflicts 0 weight 100000
 correct 1 incorrect 0 unknown 0 refused 0 signature 0 missing 0 extra 0
 ";
 
+const UNDEFS: &str = "\
+a use of a register that undef makes is not one value
+tv check A B
+--- A
+define i8 @f() {
+  %a = add i8 undef, 0
+  %b = sub i8 %a, %a
+  ret i8 %b
+}
+--- B
+define i8 @f() {
+  ret i8 1
+}
+--- 0
+tv 1 turns 4 blocks 2 bytes 8 rounds 64 conflicts 0 weight 100000
+@f correct
+correct 1 incorrect 0 unknown 0 refused 0 signature 0 missing 0 extra 0
+=== nor is it without a round
+tv check A B --rounds 0
+--- A
+define i8 @f() {
+  %a = add i8 undef, 0
+  %b = sub i8 %a, %a
+  ret i8 %b
+}
+--- B
+define i8 @f() {
+  ret i8 1
+}
+--- 2
+tv 1 turns 4 blocks 2 bytes 8 rounds 0 conflicts 0 weight 100000
+@f unknown rounds
+correct 0 incorrect 0 unknown 1 refused 0 signature 0 missing 0 extra 0
+=== where it is frozen it is one value
+tv check A B
+--- A
+define i8 @f() {
+  %a = add i8 undef, 0
+  %b = freeze i8 %a
+  %c = sub i8 %b, %b
+  ret i8 %c
+}
+--- B
+define i8 @f() {
+  ret i8 1
+}
+--- 1
+tv 1 turns 4 blocks 2 bytes 8 rounds 64 conflicts 0 weight 100000
+@f incorrect
+  source returns 0
+  target returns 1
+correct 0 incorrect 1 unknown 0 refused 0 signature 0 missing 0 extra 0
+=== two uses in the target may differ
+tv check A B
+--- A
+define i4 @f() {
+  ret i4 0
+}
+--- B
+define i4 @f() {
+  %a = or i4 undef, 0
+  %b = xor i4 %a, %a
+  ret i4 %b
+}
+--- 1
+tv 1 turns 4 blocks 2 bytes 8 rounds 64 conflicts 0 weight 100000
+@f incorrect
+  choice 0 = 0
+  choice 1 = 1
+  source returns 0
+  target returns 1
+correct 0 incorrect 1 unknown 0 refused 0 signature 0 missing 0 extra 0
+=== a frozen sum of undef and poison takes one choice more
+tv check A B
+--- A
+define i4 @f() {
+  ret i4 0
+}
+--- B
+define i4 @f() {
+  %a = add i4 undef, poison
+  %b = freeze i4 %a
+  ret i4 %b
+}
+--- 1
+tv 1 turns 4 blocks 2 bytes 8 rounds 64 conflicts 0 weight 100000
+@f incorrect
+  choice 0 = 0
+  choice 1 = 1
+  source returns 0
+  target returns 1
+correct 0 incorrect 1 unknown 0 refused 0 signature 0 missing 0 extra 0
+=== twice any number is even
+tv check A B
+--- A
+define i4 @f() {
+  %a = mul i4 undef, 2
+  ret i4 %a
+}
+--- B
+define i4 @f() {
+  ret i4 undef
+}
+--- 1
+tv 1 turns 4 blocks 2 bytes 8 rounds 64 conflicts 0 weight 100000
+@f incorrect
+  choice 0 = 1
+  source returns 0
+  target returns 1
+correct 0 incorrect 1 unknown 0 refused 0 signature 0 missing 0 extra 0
+=== a select on undef is one of its arms
+tv check A B
+--- A
+define i4 @f(i4 %x, i4 %y) {
+  %a = select i1 undef, i4 %x, i4 %y
+  ret i4 %a
+}
+--- B
+define i4 @f(i4 %x, i4 %y) {
+  ret i4 %y
+}
+--- 0
+tv 1 turns 4 blocks 2 bytes 8 rounds 64 conflicts 0 weight 100000
+@f correct
+correct 1 incorrect 0 unknown 0 refused 0 signature 0 missing 0 extra 0
+=== a sum with undef is any number, which takes too many rounds
+tv check A B
+--- A
+define i8 @f(i8 %x) {
+  %a = add i8 %x, undef
+  ret i8 %a
+}
+--- B
+define i8 @f(i8 %x) {
+  ret i8 undef
+}
+--- 2
+tv 1 turns 4 blocks 2 bytes 8 rounds 64 conflicts 0 weight 100000
+@f unknown rounds
+correct 0 incorrect 0 unknown 1 refused 0 signature 0 missing 0 extra 0
+=== a register that undef makes may not be branched on
+tv check A B
+--- A
+define i8 @f() {
+  %c = icmp eq i8 undef, 0
+  br i1 %c, label %a, label %b
+a:
+  ret i8 0
+b:
+  ret i8 1
+}
+--- B
+define i8 @f() {
+  ret i8 0
+}
+--- 3
+tv 1 turns 4 blocks 2 bytes 8 rounds 64 conflicts 0 weight 100000
+@f refused source UndefUse 3:9
+correct 0 incorrect 0 unknown 0 refused 1 signature 0 missing 0 extra 0
+=== a tree weighs at each use what made it
+tv check A B --turns 0 --weight 42
+--- A
+define i8 @f() {
+  %a = add i8 undef, 1
+  %b = freeze i8 %a
+  %c = freeze i8 %a
+  ret i8 %b
+}
+--- B
+define i8 @f() {
+  ret i8 1
+}
+--- 0
+tv 1 turns 0 blocks 2 bytes 8 rounds 64 conflicts 0 weight 42
+@f correct
+correct 1 incorrect 0 unknown 0 refused 0 signature 0 missing 0 extra 0
+=== and not less
+tv check A B --turns 0 --weight 41
+--- A
+define i8 @f() {
+  %a = add i8 undef, 1
+  %b = freeze i8 %a
+  %c = freeze i8 %a
+  ret i8 %b
+}
+--- B
+define i8 @f() {
+  ret i8 1
+}
+--- 2
+tv 1 turns 0 blocks 2 bytes 8 rounds 64 conflicts 0 weight 41
+@f unknown weight
+correct 0 incorrect 0 unknown 1 refused 0 signature 0 missing 0 extra 0
+";
+
 #[test]
 fn choices_are_covered_or_shown(rt: HostRuntime) -> Result<(), Fail> {
     are_answered(&rt, CHOICES)
@@ -255,4 +450,9 @@ fn choices_are_covered_or_shown(rt: HostRuntime) -> Result<(), Fail> {
 #[test]
 fn more_choices_are_covered_or_shown(rt: HostRuntime) -> Result<(), Fail> {
     are_answered(&rt, MORE_CHOICES)
+}
+
+#[test]
+fn each_use_of_undef_is_another_value(rt: HostRuntime) -> Result<(), Fail> {
+    are_answered(&rt, UNDEFS)
 }
