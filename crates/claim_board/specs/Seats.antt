@@ -10,7 +10,11 @@ hand_of seat = seat.me.0
 
 -- all allowances at the start
 abbrev pub total_of : Board → ℕ
-total_of board = board.table.shared.key
+total_of board = board.table.shared.key.total
+
+-- how many items there are: numbers from here on are of none
+abbrev pub items_of : Board → ℕ
+items_of board = board.table.shared.key.items
 
 -- the seat draws from this board
 abbrev pub IsSeatOf : Board → Seat (Unit {0}) Hand → Type 0

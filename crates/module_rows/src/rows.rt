@@ -12,7 +12,7 @@ ghost use Rattle.module_rows.specs.Searching.{entry_names, function_found};
 
 use crate::index::{find, names_of};
 use ir_tree::{Entry, Module, Names, copy_name};
-use pair_driver::{Gate, Judged, drive};
+use pair_driver::{Gate, Judged, drive, judge_all};
 use pair_judge::{Real, answers_are_verdicts};
 use points::{Bounds, copy_point};
 use replay::replay;
@@ -50,12 +50,75 @@ pub fn all_rows<G: Gate, R: Threads + Sync>(
     ensures answered { IfOk result (λ r. AreAnswers judge.now.bounds judge.now.budget (judged_pairs target.now.entries source.now.entries) r.answers.items) }
     ensures reported { IfOk result (λ r. verdicts_of r.rows.items ≡ verdicts_answered r.answers.items) }
 {
-    let sources = source.entries.as_slice();
+    let pairing = paired(alloc, source, target)?;
+    let answers = drive(rt, alloc, judge, gate, pairing.pairs.as_slice(), workers)?;
+    judgements_of(alloc, judge, source, target, &pairing.names, answers)
+}
+
+/// The same, the pairs judged one after the other on the caller's thread.
+pub fn rows_in_turn(
+    alloc: Global,
+    judge: &Real,
+    source: &Module,
+    target: &Module,
+) -> Result<Judgements, NoMemory>
+    requires source_names { IsDistinct same_name (entry_names source.now.entries) }
+    requires target_names { IsDistinct same_name (entry_names target.now.entries) }
+    requires source_judgeable { AllByRecursion IsJudgeableEntry source.now.entries }
+    requires target_judgeable { AllByRecursion IsJudgeableEntry target.now.entries }
+    ensures rows { IfOk result (λ r. AreRows (may_answer judge.now.bounds judge.now.budget) judge.now.bounds source.now target.now r.rows.items) }
+    ensures answered { IfOk result (λ r. AreAnswers judge.now.bounds judge.now.budget (judged_pairs target.now.entries source.now.entries) r.answers.items) }
+    ensures reported { IfOk result (λ r. verdicts_of r.rows.items ≡ verdicts_answered r.answers.items) }
+{
+    let pairing = paired(alloc, source, target)?;
+    let answers = judge_all(alloc, judge, pairing.pairs.as_slice())?;
+    judgements_of(alloc, judge, source, target, &pairing.names, answers)
+}
+
+/// The names of the target's functions, and the pairs that are judged, in the order of the source's
+/// functions.
+#[derive(Drop)]
+struct Pairing<'m> {
+    names: Names,
+    pairs: Vec<Pair<'m>>,
+}
+
+fn paired<'m>(
+    alloc: Global,
+    source: &'m Module,
+    target: &'m Module,
+) -> Result<Pairing<'m>, NoMemory>
+    requires { IsDistinct same_name (entry_names target.now.entries) }
+    ensures names { IfOk result (λ pairing. pairing.names ≡ entry_names target.now.entries) }
+    ensures pairs { IfOk result (λ pairing. pairing.pairs.items ≡ judged_pairs target.now.entries source.now.entries) }
+{
     let targets = target.entries.as_slice();
     let names = names_of(alloc, targets)?;
-    let pairs = pairs_of(alloc, sources, targets, &names)?;
-    let answers = drive(rt, alloc, judge, gate, pairs.as_slice(), workers)?;
-    let mut rows = source_rows(alloc, judge, sources, targets, &names, answers.as_slice())?;
+    let pairs = pairs_of(alloc, source.entries.as_slice(), targets, &names)?;
+    Ok(Pairing { names, pairs })
+}
+
+/// The rows of two modules whose pairs have these answers, and the answers.
+fn judgements_of(
+    alloc: Global,
+    judge: &Real,
+    source: &Module,
+    target: &Module,
+    names: &Names,
+    answers: Vec<Judged>,
+) -> Result<Judgements, NoMemory>
+    requires names { names.now ≡ entry_names target.now.entries }
+    requires source_names { IsDistinct same_name (entry_names source.now.entries) }
+    requires source_judgeable { AllByRecursion IsJudgeableEntry source.now.entries }
+    requires target_judgeable { AllByRecursion IsJudgeableEntry target.now.entries }
+    requires answered { AreAnswers judge.now.bounds judge.now.budget (judged_pairs target.now.entries source.now.entries) answers.items }
+    ensures rows { IfOk result (λ r. AreRows (may_answer judge.now.bounds judge.now.budget) judge.now.bounds source.now target.now r.rows.items) }
+    ensures answered { IfOk result (λ r. AreAnswers judge.now.bounds judge.now.budget (judged_pairs target.now.entries source.now.entries) r.answers.items) }
+    ensures reported { IfOk result (λ r. verdicts_of r.rows.items ≡ verdicts_answered r.answers.items) }
+{
+    let sources = source.entries.as_slice();
+    let targets = target.entries.as_slice();
+    let mut rows = source_rows(alloc, judge, sources, targets, names, answers.as_slice())?;
     push_extra_rows(alloc, &mut rows, sources, targets)?;
     Ok(Judgements { rows, answers })
 }

@@ -1,19 +1,23 @@
 -- A worker that draws: what it has at each turn, and at its end.
-use Rattle.std.proofs.Common.{◌≡◌, ℕ, zero, suc, ◌+◌, ◌-◌, ◌*◌, ◌<◌, ◌≤◌, List, [], ◌∷◌, ◌++◌, length, true, false, cond, refl, sym, ap, ◌∙◌, subst, arith, nat_lt, length-append, add-mul}
-use Rattle.std.specs.Prelude.{map, filter, All, Any}
-use Rattle.std.proofs.lemmas.List.{map-append, append-nil, length-map}
-use Rattle.std.proofs.lemmas.List.Elements.{filter-append, All-append, All-nil}
+use Rattle.std.proofs.Common.{◌≡◌, ℕ, Bool, true, false, zero, suc, ◌+◌, ◌-◌, ◌*◌, ◌<◌, ◌≤◌, List, [], ◌∷◌, ◌++◌, length, refl, sym, ap, ◌∙◌, subst, arith, ne_eqb, length-append, add-mul}
+use Rattle.std.specs.Prelude.{map, All, Any, Contains, if◌then◌else◌}
+use Rattle.std.proofs.lemmas.List.{map-append}
+use Rattle.std.proofs.lemmas.List.Elements.{All-append, All-nil, All-push, All-weaker, Contains-append_left, Contains-push}
 use Rattle.claim_board.specs.declared.board.Hand.{Hand}
-use Rattle.claim_board.specs.Board.{hand}
+use Rattle.claim_board.specs.Board.{hand, times, with_found, with_passed}
+use Rattle.claim_board.proofs.Runs.{times-append}
 use Rattle.pair_driver.specs.declared.judged.Judged.{Judged}
 use Rattle.pair_driver.specs.declared.place.Answer.{Answer}
-use Rattle.pair_driver.specs.Draws.{IsAllowedAt, IsClaiming, IsDone, HasEnded}
+use Rattle.pair_driver.specs.Draws.{AreCounted, IsAllowedAt, IsClaiming, IsDone, IsEndedAt, HasEnded}
 
--- a worker that claims has an answer for each task that it claimed
-pub record IsDrawing (allows : ℕ → Judged → Type 0) (n : ℕ) (v : Hand) (answers : List Answer) : Type 0 where
+-- a worker that claims has answered or passed over each task that it claimed
+pub record IsDrawing (allows : ℕ → Judged → Type 0) (ends : Judged → Bool) (n : ℕ) (v : Hand) (answers : List Answer) : Type 0 where
   pub claims : IsClaiming n v
-  pub numbers : map (λ a. a.number) answers ≡ v.drawn
+  pub counted : AreCounted n v answers
   pub allowed : All (IsAllowedAt allows n) answers
+  pub found : All (IsEndedAt ends answers) v.found
+  pub reported : All (Contains v.drawn) v.found
+  pub few : length answers ≤ length v.drawn
 
 All-one : {X : Type 0} (P : X → Type 0) (x : X) → P x → All P (x ∷ [])
 All-one P x p zero d h = p
@@ -32,17 +36,13 @@ Any-append_left P [] ys (k, x, l, e, p) = absurd (omega arith)
 Any-append_left P (x ∷ xs) ys (zero, y, l, e, p) = (0, y, omega arith, e, p)
 Any-append_left P (x ∷ xs) ys (suc k, y, l, e, p) = let r = Any-append_left P xs ys (k, y, omega arith, e, p) in let m = r.2 in (suc r.0, r.1, omega arith, r.3, r.4)
 
-filter-all : (n : ℕ) (xs : List ℕ) → All (λ x. x < n) xs → filter (λ x. nat_lt x n) xs ≡ xs
-filter-all n [] a = refl
-filter-all n (x ∷ xs) a =
-    let here : x < n = a 0 x (omega arith) in
-    let rest : filter (λ y. nat_lt y n) xs ≡ xs = filter-all n xs (λ j e l. a (suc j) e (omega arith)) in
-    let yes : nat_lt x n ≡ true = grind arith in
-    ap (λ b. cond b (x ∷ filter (λ y. nat_lt y n) xs) (filter (λ y. nat_lt y n) xs)) yes ∙ ap (λ ys. x ∷ ys) rest
+Any-append_right : {X : Type 0} (P : X → Type 0) (xs ys : List X) → Any P ys → Any P (xs ++ ys)
+Any-append_right P [] ys a = a
+Any-append_right P (x ∷ xs) ys a = let r = Any-append_right P xs ys a in let l = r.2 in (suc r.0, r.1, omega arith, r.3, r.4)
 
 -- ---- claims
 
-pub claiming-begins : (n : ℕ) (v : Hand) → v ≡ hand [] (n + 1) → IsClaiming n v
+pub claiming-begins : (n : ℕ) (v : Hand) → v ≡ hand [] [] [] (n + 1) → IsClaiming n v
 claiming-begins n v e = subst (λ u. IsClaiming n u) (sym e) (record {
   budget = omega arith;
   inside = All-nil _;
@@ -53,7 +53,7 @@ claiming-begins n v e = subst (λ u. IsClaiming n u) (sym e) (record {
 pub claiming-has_room : (n : ℕ) (v : Hand) → IsClaiming n v → 0 < v.allowance
 claiming-has_room n v d = let few = d.packed n d.inside in let budget = d.budget in omega arith
 
-pub claiming-more : (n x : ℕ) (v : Hand) → IsClaiming n v → All (λ y. y < x) v.drawn → x < n → IsClaiming n (hand (v.drawn ++ x ∷ []) (v.allowance - 1))
+pub claiming-more : (n x : ℕ) (v : Hand) → IsClaiming n v → All (λ y. y < x) v.drawn → x < n → IsClaiming n (hand (v.drawn ++ x ∷ []) v.found v.passed (v.allowance - 1))
 claiming-more n x v d above below =
     let room = claiming-has_room n v d in
     let budget = d.budget in record {
@@ -65,54 +65,114 @@ claiming-more n x v d above below =
           omega (arith, length-append v.drawn (x ∷ []));
     }
 
-pub claiming-ends : (n x : ℕ) (v : Hand) → n ≤ x → HasEnded n (hand (v.drawn ++ x ∷ []) (v.allowance - 1))
+pub claiming-ends : (n x : ℕ) (v : Hand) → n ≤ x → HasEnded n (hand (v.drawn ++ x ∷ []) v.found v.passed (v.allowance - 1))
 claiming-ends n x v past = Any-last (λ y. n ≤ y) v.drawn x past
 
 -- ---- claims with answers
 
-module _ (allows : ℕ → Judged → Type 0) (n : ℕ) where
-  pub drawing-begins : (v : Hand) → v ≡ hand [] (n + 1) → IsDrawing allows n v []
-  drawing-begins v e = record { claims = claiming-begins n v e; numbers = ap (λ u. u.drawn) (sym e); allowed = All-nil _ }
+times_numbers : (x : ℕ) (xs ys : List Answer) → times x (map (λ a. a.number) (xs ++ ys)) ≡ times x (map (λ a. a.number) xs) + times x (map (λ a. a.number) ys)
+times_numbers x xs ys = ap (times x) (map-append (λ (a : Answer). a.number) xs ys) ∙ times-append x (map (λ a. a.number) xs) (map (λ a. a.number) ys)
 
-  pub drawing-more : (v : Hand) (answers : List Answer) (a : Answer) → IsDrawing allows n v answers → All (λ x. x < a.number) v.drawn → IsAllowedAt allows n a
-      → IsDrawing allows n (hand (v.drawn ++ a.number ∷ []) (v.allowance - 1)) (answers ++ a ∷ [])
-  drawing-more v answers a d above allowed = record {
-    claims = claiming-more n a.number v d.claims above allowed.0;
-    numbers = map-append (λ b. b.number) answers (a ∷ []) ∙ ap (λ xs. xs ++ a.number ∷ []) d.numbers;
-    allowed = All-append (IsAllowedAt allows n) answers (a ∷ []) d.allowed (All-one (IsAllowedAt allows n) a allowed);
-  }
+-- a number that was not drawn before was not reported
+pub not_found : (x : ℕ) (v : Hand) → All (Contains v.drawn) v.found → All (λ y. y < x) v.drawn → ¬ Contains v.found x
+not_found x v reported above (i, inside, is) =
+    let drawn : Contains v.drawn x = subst (Contains v.drawn) is (reported i x inside) in
+    let low : x < x = subst (λ y. y < x) drawn.2 (above drawn.0 x drawn.1) in
+    omega arith
+
+module _ (allows : ℕ → Judged → Type 0) (ends : Judged → Bool) (n : ℕ) where
+  pub drawing-begins : (v : Hand) → v ≡ hand [] [] [] (n + 1) → IsDrawing allows ends n v []
+  drawing-begins v e = subst (λ u. IsDrawing allows ends n u []) (sym e) (record {
+    claims = claiming-begins n (hand [] [] [] (n + 1)) refl;
+    counted = λ x inside. refl;
+    allowed = All-nil _;
+    found = All-nil _;
+    reported = All-nil _;
+    few = omega arith;
+  })
+
+  -- the task is passed over
+  pub drawing-passed : (v : Hand) (answers : List Answer) (x : ℕ) → IsDrawing allows ends n v answers → All (λ y. y < x) v.drawn → x < n
+      → IsDrawing allows ends n (with_passed true x (hand (v.drawn ++ x ∷ []) v.found v.passed (v.allowance - 1))) answers
+  drawing-passed v answers x d above below =
+      let more = claiming-more n x v d.claims above below in
+      let few = d.few in record {
+        claims = record { budget = more.budget; inside = more.inside; packed = more.packed };
+        counted = λ y inside. let k = d.counted y inside in omega (arith, times-append y v.drawn (x ∷ []), times-append y v.passed (x ∷ []));
+        allowed = d.allowed;
+        found = d.found;
+        reported = All-weaker (Contains v.drawn) (Contains (v.drawn ++ x ∷ [])) (Contains-append_left v.drawn (x ∷ [])) v.found d.reported;
+        few = omega (arith, length-append v.drawn (x ∷ []));
+      }
+
+  found_more : (v : Hand) (answers : List Answer) (a : Answer) → IsDrawing allows ends n v answers → All (IsEndedAt ends (answers ++ a ∷ [])) v.found
+  found_more v answers a d = All-weaker (IsEndedAt ends answers) (IsEndedAt ends (answers ++ a ∷ []))
+      (λ k. Any-append_left (λ b. (b.number ≡ k) × (ends b.judged ≡ true)) answers (a ∷ [])) v.found d.found
+
+  -- the task is answered
+  pub drawing-more : (v : Hand) (answers : List Answer) (a : Answer) (e : Bool) → IsDrawing allows ends n v answers → All (λ x. x < a.number) v.drawn → IsAllowedAt allows n a → e ≡ ends a.judged
+      → IsDrawing allows ends n
+      (if e then with_found a.number (hand (v.drawn ++ a.number ∷ []) v.found v.passed (v.allowance - 1)) else hand (v.drawn ++ a.number ∷ []) v.found v.passed (v.allowance - 1))
+      (answers ++ a ∷ [])
+  drawing-more v answers a false d above allowed is =
+      let more = claiming-more n a.number v d.claims above allowed.0 in
+      let few = d.few in record {
+        claims = more;
+        counted = λ y inside. let k = d.counted y inside in omega (arith, times-append y v.drawn (a.number ∷ []), times_numbers y answers (a ∷ []));
+        allowed = All-push (IsAllowedAt allows n) answers a d.allowed allowed;
+        found = found_more v answers a d;
+        reported = All-weaker (Contains v.drawn) (Contains (v.drawn ++ a.number ∷ [])) (Contains-append_left v.drawn (a.number ∷ [])) v.found d.reported;
+        few = omega (arith, length-append v.drawn (a.number ∷ []), length-append answers (a ∷ []));
+      }
+  drawing-more v answers a true d above allowed is =
+      let more = claiming-more n a.number v d.claims above allowed.0 in
+      let few = d.few in
+      let kept = All-weaker (Contains v.drawn) (Contains (v.drawn ++ a.number ∷ [])) (Contains-append_left v.drawn (a.number ∷ [])) v.found d.reported in record {
+        claims = record { budget = more.budget; inside = more.inside; packed = more.packed };
+        counted = λ y inside. let k = d.counted y inside in omega (arith, times-append y v.drawn (a.number ∷ []), times_numbers y answers (a ∷ []));
+        allowed = All-push (IsAllowedAt allows n) answers a d.allowed allowed;
+        found = All-push (IsEndedAt ends (answers ++ a ∷ [])) v.found a.number (found_more v answers a d)
+            (Any-last (λ b. (b.number ≡ a.number) × (ends b.judged ≡ true)) answers a (refl, sym is));
+        reported = All-push (Contains (v.drawn ++ a.number ∷ [])) v.found a.number kept (Contains-push v.drawn a.number);
+        few = omega (arith, length-append v.drawn (a.number ∷ []), length-append answers (a ∷ []));
+      }
 
   -- there are fewer answers than the number that is claimed next
-  pub few_answers : (x : ℕ) (v : Hand) (answers : List Answer) → IsDrawing allows n v answers → All (λ y. y < x) v.drawn → length answers ≤ x
-  few_answers x v answers d above = let few = d.claims.packed x above in omega (arith, simp length-map at (ap length d.numbers))
+  pub few_answers : (x : ℕ) (v : Hand) (answers : List Answer) → IsDrawing allows ends n v answers → All (λ y. y < x) v.drawn → length answers ≤ x
+  few_answers x v answers d above = let packed = d.claims.packed x above in let few = d.few in omega arith
 
-  -- the number drawn last is of no pair
-  pub drawing-ends : (v : Hand) (answers : List Answer) (c : ℕ) → IsDrawing allows n v answers → n ≤ c
-      → IsDone allows n 1 (hand (v.drawn ++ c ∷ []) (v.allowance - 1)) answers
+  -- the number drawn last is of no task
+  pub drawing-ends : (v : Hand) (answers : List Answer) (c : ℕ) → IsDrawing allows ends n v answers → n ≤ c
+      → IsDone allows ends n 1 (hand (v.drawn ++ c ∷ []) v.found v.passed (v.allowance - 1)) answers
   drawing-ends v answers c d past =
       let room = claiming-has_room n v d.claims in
-      let budget = d.claims.budget in
-      let out : nat_lt c (n) ≡ false = grind arith in
-      let none : filter (λ x. nat_lt x (n)) (c ∷ []) ≡ [] = ap (λ b. cond b (c ∷ []) []) out in record {
+      let budget = d.claims.budget in record {
         budget = omega (arith, length-append v.drawn (c ∷ []));
-        numbers = d.numbers ∙ sym (filter-append (λ x. nat_lt x (n)) v.drawn (c ∷ [])
-            ∙ (ap (λ ys. filter (λ x. nat_lt x (n)) v.drawn ++ ys) none
-            ∙ (append-nil _ ∙ filter-all (n) v.drawn d.claims.inside)));
+        counted = λ y inside.
+            let k = d.counted y inside in
+            let other : times y (c ∷ []) ≡ 0 = let differ = ne_eqb c y (λ e. omega arith) in grind arith in
+            omega (arith, times-append y v.drawn (c ∷ []));
         allowed = d.allowed;
+        found = d.found;
         ended = Any-last (λ x. n ≤ x) v.drawn c past;
       }
 
-  -- the pairs of both
-  pub done-both : (a b m : ℕ) (v w : Hand) (xs ys : List Answer) → a + b ≡ m → IsDone allows n a v xs → IsDone allows n b w ys
-      → IsDone allows n m (hand (v.drawn ++ w.drawn) (v.allowance + w.allowance)) (xs ++ ys)
+  -- the tasks of both
+  pub done-both : (a b m : ℕ) (v w : Hand) (xs ys : List Answer) → a + b ≡ m → IsDone allows ends n a v xs → IsDone allows ends n b w ys
+      → IsDone allows ends n m (hand (v.drawn ++ w.drawn) (v.found ++ w.found) (v.passed ++ w.passed) (v.allowance + w.allowance)) (xs ++ ys)
   done-both a b m v w xs ys all d e =
       let p = d.budget in
       let q = e.budget in record {
         budget =
             let whole : (a + b) * (n + 1) ≡ m * (n + 1) = ap (λ k. k * (n + 1)) all in
             omega (arith, length-append v.drawn w.drawn, add-mul a b (n + 1));
-        numbers = map-append (λ x. x.number) xs ys ∙ (ap (λ zs. zs ++ map (λ x. x.number) ys) d.numbers
-            ∙ (ap (λ zs. filter (λ x. nat_lt x (n)) v.drawn ++ zs) e.numbers ∙ sym (filter-append (λ x. nat_lt x (n)) v.drawn w.drawn)));
+        counted = λ y inside.
+            let k = d.counted y inside in
+            let l = e.counted y inside in
+            omega (arith, times-append y v.drawn w.drawn, times-append y v.passed w.passed, times_numbers y xs ys);
         allowed = All-append (IsAllowedAt allows n) xs ys d.allowed e.allowed;
+        found = All-append (IsEndedAt ends (xs ++ ys)) v.found w.found
+            (All-weaker (IsEndedAt ends xs) (IsEndedAt ends (xs ++ ys)) (λ k. Any-append_left (λ x. (x.number ≡ k) × (ends x.judged ≡ true)) xs ys) v.found d.found)
+            (All-weaker (IsEndedAt ends ys) (IsEndedAt ends (xs ++ ys)) (λ k. Any-append_right (λ x. (x.number ≡ k) × (ends x.judged ≡ true)) xs ys) w.found e.found);
         ended = Any-append_left (λ x. n ≤ x) v.drawn w.drawn d.ended;
       }

@@ -1,7 +1,8 @@
-ghost use Rattle.std.specs.Prelude.{◌≡◌, ℕ, ◌<◌, None, All, Any, IfOk, IsSome, Some, map, replicate, slice_set, vec_len};
-ghost use Rattle.pair_driver.specs.Draws.{ArePlaced, AreFilled};
+ghost use Rattle.std.specs.Prelude.{◌≡◌, ℕ, ◌<◌, None, All, IfOk, IsSome, Some, map, replicate, slice_set, vec_len};
+ghost use Rattle.pair_driver.specs.Draws.{AreFilled, ArePlaced, AreUnique, IsFirstEnd, IsReached, StopsAtFirst, slot_ends};
 
 use crate::judged::Judged;
+use crate::tasks::Tasks;
 use std::alloc::Global;
 use std::mem;
 use support::NoMemory;
@@ -13,16 +14,46 @@ pub struct Answer {
     pub judged: Judged,
 }
 
-/// Puts each answer at the index of its number.
-pub fn place(alloc: Global, count: usize, answers: Vec<Answer>) -> Result<Vec<Judged>, NoMemory>
+/// Puts each answer at the index of its number, up to the first one that ends the run.
+pub fn place<T: Tasks>(
+    alloc: Global,
+    tasks: &T,
+    count: usize,
+    answers: Vec<Answer>,
+) -> Result<Vec<Judged>, NoMemory>
     requires inside { All (λ a. a.number < count) answers.items }
-    requires each { (x : ℕ) → x < count → Any (λ a. a.number ≡ x) answers.items }
-    ensures count { IfOk result (λ placed. vec_len placed ≡ count) }
+    requires unique { AreUnique answers.items }
+    requires each { (x : ℕ) → x < count → IsReached (T.ending tasks.now) answers.items x }
+    ensures stops { IfOk result (λ placed. StopsAtFirst (T.ending tasks.now) count placed.items) }
     ensures placed { IfOk result (λ placed. ArePlaced answers.items placed.items) }
 {
     let mut slots = empty_slots(alloc, count)?;
     fill(&mut slots, answers);
-    take_all(alloc, slots)
+    let end = first_end(tasks, slots.as_slice());
+    slots.truncate(end);
+    let placed = take_all(alloc, slots)?;
+    Ok(placed)
+}
+
+/// How many slots there are up to and with the first whose answer ends the run.
+fn first_end<T: Tasks>(tasks: &T, slots: &[Option<Judged>]) -> usize
+    ensures { IsFirstEnd (T.ending tasks.now) slots.now result }
+{
+    'ends: for index in 0..slots.len() {
+        if is_end(tasks, &slots[index]) {
+            return index + 1;
+        }
+    }
+    slots.len()
+}
+
+fn is_end<T: Tasks>(tasks: &T, slot: &Option<Judged>) -> bool
+    ensures { result ≡ slot_ends (T.ending tasks.now) slot.now }
+{
+    match slot {
+        None => false,
+        Some(judged) => tasks.ends(judged),
+    }
 }
 
 fn empty_slots(alloc: Global, count: usize) -> Result<Vec<Option<Judged>>, NoMemory>

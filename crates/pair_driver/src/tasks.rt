@@ -1,4 +1,4 @@
-ghost use Rattle.std.specs.Prelude.{◌≡◌, ℕ, ◌<◌, IfOk};
+ghost use Rattle.std.specs.Prelude.{◌≡◌, ℕ, Bool, ◌<◌, IfOk};
 ghost use Rattle.pair_driver.specs.declared.judged.Judged.{Judged};
 
 use crate::judged::Judged;
@@ -13,6 +13,8 @@ pub trait Tasks: Sync {
     ghost count: { Self → ℕ };
     // What the task of a number may answer.
     ghost allows: { Self → ℕ → Judged → Type 0 };
+    // Whether an answer ends the run: the tasks after it need no answer.
+    ghost ending: { Self → Judged → Bool };
 
     /// How many there are.
     fn len(&self) -> u64
@@ -23,4 +25,8 @@ pub trait Tasks: Sync {
         requires ready { ready self.now }
         requires number { number < count self.now }
         ensures { IfOk result (allows self.now number) };
+
+    /// Whether an answer ends the run.
+    fn ends(&self, judged: &Judged) -> bool
+        ensures { result ≡ ending self.now judged.now };
 }

@@ -12,7 +12,7 @@ use std::thread::join;
 // Claims until a number is 5 or more.
 fn numbers(alloc: Global, board: &Board, mut seat: Seat) -> Result<(Seat, Vec<u64>), AllocError>
     requires seat { IsSeatOf board.now seat }
-    requires fresh { hand_of seat ≡ hand [] 6 }
+    requires fresh { hand_of seat ≡ hand [] [] [] 6 }
     ensures { IfOk result (λ r. IsSeatOf board.now r.0) }
 {
     let mut drawn = Vec::new(alloc);
@@ -35,11 +35,11 @@ fn two_threads_claim_each_number_once(rt: HostRuntime) -> Result<(), Fail> {
     let (mine, theirs) = join(
         &rt,
         || -> Result<(Seat, Vec<u64>), AllocError>
-            requires { IsSeatOf shared.now first × (hand_of first ≡ hand [] 6) }
+            requires { IsSeatOf shared.now first × (hand_of first ≡ hand [] [] [] 6) }
             ensures { IfOk result (λ r. IsSeatOf shared.entry.now r.0) }
         { numbers(alloc, shared, first) },
         || -> Result<(Seat, Vec<u64>), AllocError>
-            requires { IsSeatOf shared.now second × (hand_of second ≡ hand [] 6) }
+            requires { IsSeatOf shared.now second × (hand_of second ≡ hand [] [] [] 6) }
             ensures { IfOk result (λ r. IsSeatOf shared.entry.now r.0) }
         { numbers(alloc, shared, second) },
     );

@@ -1,4 +1,4 @@
-use Rattle.std.proofs.Common.{◌≡◌, ℕ, ◌+◌, ◌-◌, ◌*◌, ◌<◌, ◌≤◌, [], ap, ◌∙◌, arith}
+use Rattle.std.proofs.Common.{◌≡◌, ℕ, ◌+◌, ◌-◌, ◌*◌, ◌<◌, [], ap, ◌∙◌, arith}
 use Rattle.std.proofs.lemmas.List.Elements.{All-append, All-cons, All-nil}
 use Rattle.claim_board.specs.Board.{hand}
 use Rattle.pair_driver.specs.Draws.{IsFresh}
@@ -24,7 +24,7 @@ made-preserved c =
     let parts = left_parts c.args.workers c.made.counter (c.args.count + 1) below in
     let less : (c.args.workers - c.made.counter) * (c.args.count + 1) - (c.args.count + 1) ≡ (c.args.workers - (c.made.counter + 1)) * (c.args.count + 1) = omega arith in (
       c.in_ok-desk.ensures.seat,
-      c.in_ok-desk.ensures.kept ∙ ap (λ v. hand v.drawn (v.allowance - (c.args.count + 1))) c.made.invariant.1 ∙ ap (hand []) less,
+      c.in_ok-desk.ensures.kept ∙ ap (λ v. hand v.drawn v.found v.passed (v.allowance - (c.args.count + 1))) c.made.invariant.1 ∙ ap (hand [] [] []) less,
       (let more = c.in_ok-push.ensures.len in let many = c.made.invariant.2 in omega arith),
       rw c.in_ok-push.ensures.items
           (All-append (IsFresh c.args.board.now c.args.count) c.made.desks.items _ c.made.invariant.3

@@ -8,6 +8,6 @@ use Rattle.pair_driver.proofs.desks.desks_for.Given as goal
 abbrev pub invariant-made : goal.invariant-made
 invariant-made l =
     IsSeatOf l.board l.seat
-    × (hand_of l.seat ≡ hand [] ((l.workers - l.counter) * (l.count + 1)))
+    × (hand_of l.seat ≡ hand [] [] [] ((l.workers - l.counter) * (l.count + 1)))
     × (vec_len l.desks ≡ l.counter)
     × All (IsFresh l.board l.count) l.desks.items

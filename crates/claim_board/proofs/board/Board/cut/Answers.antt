@@ -4,7 +4,7 @@ use Rattle.claim_board.proofs.board.Board.cut.Goals as goal
 
 pub split_seat-requires : goal.split_seat-requires
 split_seat-requires g c =
-    let one = c.args.self.now.one_word in
+    let two = c.args.self.now.two_words in
     let some_word : 0 < c.args.self.now.table.shared.table_id.words = omega arith in
     let part = c.requires.part in
     let fits = c.requires.enough in
