@@ -1,5 +1,5 @@
 -- What loading and parsing answer.
-use Rattle.std.specs.Prelude.{◌≡◌, ◌≤◌, ℕ, List, length, map, Option, Some, Result, Ok, Err}
+use Rattle.std.specs.Prelude.{◌≡◌, ◌<◌, ◌≤◌, ℕ, List, length, map, Option, Some, Result, Ok, Err}
 use Rattle.std.specs.List.{IsDistinct, AllByRecursion}
 use Rattle.std.specs.Global.{Vec}
 use Rattle.tv_io.specs.Count.{Rose}
@@ -94,3 +94,17 @@ abbrev pub CountsStop : Stop → ShelfState → ShelfState → Type 0
 CountsStop (stop.Source trouble.CannotRead) old new = Rose old.fetch_faults new.fetch_faults
 CountsStop (stop.Target trouble.CannotRead) old new = Rose old.fetch_faults new.fetch_faults
 CountsStop _ old new = new.fetch_faults ≡ old.fetch_faults
+
+-- ---- two texts in place of files
+
+pub record AreWithin (source target : List ℕ) : Type 0 where
+  pub source_within : length source ≤ text_limit
+  pub target_within : length target ≤ text_limit
+
+-- the first cause that keeps two texts from being judged: the source is too long, the target is, or the
+-- first fault of both, which are within the limit; out of memory has none
+abbrev pub StopsAtTexts : (source target : List ℕ) → Stop → Type 0
+StopsAtTexts source target (stop.Source trouble.TooLong) = text_limit < length source
+StopsAtTexts source target (stop.Target trouble.TooLong) = (length source ≤ text_limit) × (text_limit < length target)
+StopsAtTexts source target stop.NoMemory = Unit {0}
+StopsAtTexts source target why = AreWithin source target × IsUnread source target why

@@ -3,10 +3,10 @@
 ghost use Rattle.std.specs.Prelude.{◌≡◌, IfOk, IfErr, OnOk};
 ghost use Rattle.tv_io.specs.State.{ShelfState};
 ghost use Rattle.module_files.specs.Stops.{StopsAt};
-ghost use Rattle.module_files.specs.Reading.{AreParsed, AreRead, CountsStop, IsUnread};
+ghost use Rattle.module_files.specs.Reading.{AreParsed, AreRead, AreWithin, CountsStop, IsUnread, StopsAtTexts};
 
-use crate::stop::{LoadFault, Stop};
-use crate::texts::{load, module_beside, module_from};
+use crate::stop::{LoadFault, Stop, Trouble};
+use crate::texts::{TEXT_LIMIT, load, module_beside, module_from, module_of};
 use ir_tree::Module;
 use std::alloc::Global;
 use std::thread::Threads;
@@ -89,5 +89,35 @@ fn modules_beside<R: Threads + Sync>(
 {
     let source = module_beside(rt, alloc, source, workers).map_err(LoadFault::at_source)?;
     let target = module_beside(rt, alloc, target, workers).map_err(LoadFault::at_target)?;
+    Ok(Modules { source, target })
+}
+
+/// The modules of two texts, or why they are not judged: the same as [`read_both`] of files that hold
+/// them.
+///
+/// # Errors
+/// The first cause, in the order length of the source, length of the target, source module, target
+/// module.
+pub fn read_texts(alloc: Global, source: &[u8], target: &[u8]) -> Result<Modules, Stop>
+    ensures modules { IfOk result (AreParsed source.now target.now) }
+    ensures within { OnOk result (AreWithin source.now target.now) }
+    ensures cause { IfErr result (StopsAtTexts source.now target.now) }
+{
+    if source.len() as u64 > TEXT_LIMIT {
+        return Err(Stop::Source(Trouble::TooLong));
+    }
+    if target.len() as u64 > TEXT_LIMIT {
+        return Err(Stop::Target(Trouble::TooLong));
+    }
+    modules_in(alloc, source, target)
+}
+
+/// The modules of two texts, or the fault of the first that is no module.
+fn modules_in(alloc: Global, source: &[u8], target: &[u8]) -> Result<Modules, Stop>
+    ensures parsed { IfOk result (AreParsed source.now target.now) }
+    ensures unread { IfErr result (IsUnread source.now target.now) }
+{
+    let source = module_of(alloc, source).map_err(LoadFault::at_source)?;
+    let target = module_of(alloc, target).map_err(LoadFault::at_target)?;
     Ok(Modules { source, target })
 }

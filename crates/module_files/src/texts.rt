@@ -11,7 +11,7 @@ use std::thread::Threads;
 use tv_io::{FetchFault, Shelf, Size};
 
 /// The most bytes of a file.
-const TEXT_LIMIT: u64 = 16_777_216;
+pub const TEXT_LIMIT: u64 = 16_777_216;
 
 /// The bytes of a file, at most the limit.
 pub fn load<S: Shelf>(alloc: Global, shelf: &mut S, name: &str) -> Result<Vec<u8>, LoadFault>

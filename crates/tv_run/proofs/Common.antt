@@ -23,7 +23,7 @@ pub use Rattle.ir_tree.specs.declared.name.Name.TheVariants.{Number, Word}
 pub use Rattle.ir_tree.specs.declared.tree.Function.{Function}
 pub use Rattle.module_rows.proofs.Answered.{verdicts_with_extra}
 pub use Rattle.module_rows.proofs.OwnAnswers.{rows_have_answers}
-pub use Rattle.module_rows.specs.Judging.{may_answer, AreAnswers, verdicts_answered, verdicts_in, verdicts_of}
+pub use Rattle.module_rows.specs.Judging.{may_answer, judged_pairs, AreAnswers, ReportOwnAnswers, verdicts_answered, verdicts_in, verdicts_of}
 pub use Rattle.module_rows.specs.Searching.{entry_names}
 pub use Rattle.pair_driver.specs.declared.judged.Judged.{Judged}
 pub use Rattle.points.specs.Range.{AreInRange}
@@ -56,14 +56,14 @@ pub use Rattle.verdicts.specs.declared.verdict.Cause.{Cause}
 pub use Rattle.verdicts.specs.declared.verdict.Cause.TheVariants.{Weight, Rounds, Conflicts}
 pub use Rattle.verdicts.specs.declared.verdict.Shown.{Shown}
 pub use Rattle.verdicts.specs.declared.verdict.Verdict.{Verdict}
-pub use Rattle.tv_run.specs.Answers.{IsFaultOf, IsSent, AreParts, IsLogStop, IsNoProof, LoadsProof, AreModules, FitsIn, HasReport, HoldsText, IsDelivered, IsProofAsked, CountsStop, IsParsed}
+pub use Rattle.tv_run.specs.Answers.{IsFaultOf, IsSent, AreParts, IsLogStop, IsNoProof, LoadsProof, AreModules, FitsIn, HasReport, HoldsText, IsDelivered, IsProofAsked, IsReportOf, IsReportOn, CountsStop, IsParsed}
 pub use Rattle.tv_run.specs.Files.{HasModule, HasFault, WhereKnown, HasParts, IsLonger}
 pub use Rattle.tv_run.specs.Jobs.{WhereChecked, FileChanges, ProofChanges, job_in}
 pub use Rattle.tv_run.specs.Laws.{FileReportsAreSound, ReportsAreSound, FaultsAreOne, ModulesHaveNoFault, FileReportsAreDefined, PutProofsAreVerified, ReportsAreDefined, ReportsAreOne}
 pub use Rattle.tv_run.specs.Makes.{IsReadBack, MadePartlyWritten, MadeWritten, SaysMade, make_line}
 pub use Rattle.tv_run.specs.OneReading.{IsReadRow, HasPosition, IsSameFinding, SaysTheSame, TextsHaveOneListOfRows}
-pub use Rattle.tv_run.specs.Reports.{part_heading, row_heading, IsTheDefinedReport, IsUnfinished, PartlyWritten, WritesDefinedReport, HoldsProof, Written, IsDefinedReport, IsReport}
-pub use Rattle.tv_run.specs.Sound.{HasDistinctNames, HasFunction, HoldsThroughout, IsPairNamed, IsRefined, HasVerdict, IsSound, MeansRefinement, SaysRefinement, FilesRefine, PartlyMeansRefinement, WritesSound}
+pub use Rattle.tv_run.specs.Reports.{part_heading, row_heading, IsTheDefinedReport, IsUnfinished, PartlyWritten, WritesDefinedReport, HoldsProof, Written, IsDefinedReport, IsReport, Reports}
+pub use Rattle.tv_run.specs.Sound.{HasFunction, HoldsThroughout, IsPairNamed, IsRefined, HasVerdict, IsSound, MeansRefinement, SaysRefinement, FilesRefine, PartlyMeansRefinement, WritesSound}
 pub use Rattle.tv_run.specs.Stops.{HasTrouble, IsBeforeTarget, trouble_status, HasLogTrouble, log_trouble_status, HasCause, IsNotPut, Refuses, RefusesJob, stop_status, WritesLine}
 pub use Rattle.module_files.specs.declared.stop.Stop.{Stop}
 pub use Rattle.module_files.specs.declared.stop.Trouble.{Trouble}

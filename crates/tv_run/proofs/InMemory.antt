@@ -66,7 +66,7 @@ some_bytes : (a b : List ℕ) → Some a ≡ Some b → a ≡ b
 some_bytes a b e = cc e
 
 module _ (text bytes : List ℕ) (old new : SinkState) (empty : old.taken ≡ Some []) (holds : new.taken ≡ Some bytes) where
-  written_is : IsWritten text old new → text ≡ bytes
+  pub written_is : IsWritten text old new → text ≡ bytes
   written_is written = some_bytes text bytes (sym (written.taken ∙ ap (λ taken. then_taken taken text) empty) ∙ holds)
 
 pub sound : (files : Files) (c : Check) (status : ℕ) (old new : SinkState) (bytes : List ℕ) → old.taken ≡ Some [] → new.taken ≡ Some bytes → MeansRefinement files c status old new → SaysRefinement files c bytes status

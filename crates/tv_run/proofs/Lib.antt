@@ -12,6 +12,8 @@ pub mod Verified
 pub mod RowLines
 pub mod RowHeads
 pub mod RowsRead
+pub mod Reporting
+pub mod TextChecks
 mod Logging
 mod Sending
 mod ReadAgain

@@ -11,6 +11,8 @@ use Rattle.ir_tree.specs.declared.module.Module.{Module}
 use Rattle.ir_reader.specs.Judgeable.{IsJudgeableEntry}
 use Rattle.pair_driver.specs.declared.judged.Judged.{Judged}
 use Rattle.report.specs.declared.row.Row.{Row}
+use Rattle.report.specs.Text.{report_text}
+use Rattle.report.specs.Status.{status_of}
 use Rattle.proof_text.specs.declared.part.Part.{Part}
 use Rattle.proof_text.specs.declared.part.ProofFault.TheVariants as proof_fault
 use Rattle.proof_text.specs.FirstFault.{IsFaultOf as IsWrongLine}
@@ -25,7 +27,7 @@ use Rattle.tv_run.specs.declared.stop.LogTrouble.TheVariants as log_trouble
 use Rattle.tv_run.specs.declared.stop.LogStop.{LogStop}
 use Rattle.tv_run.specs.declared.stop.LogStop.TheVariants as log_stop
 use Rattle.tv_run.specs.Stops.{HasLogTrouble, IsNotPut}
-pub use Rattle.module_files.specs.Reading.{IsFaultOf, IsParsed, Parses, AreRead, CountsStop}
+pub use Rattle.module_files.specs.Reading.{IsFaultOf, IsParsed, Parses, AreRead, CountsStop, AreWithin, AreParsed, IsUnread, StopsAtTexts}
 
 -- ---- both files
 
@@ -74,6 +76,13 @@ abbrev pub IsProofAsked : Option Text → List Row → List Judged → Option (V
 IsProofAsked None rows answers proof = Unit {0}
 IsProofAsked (Some name) rows answers None = ⊥
 IsProofAsked (Some name) rows answers (Some text) = IsProofFile rows answers text.items
+
+-- rows as a text and as a status, with the judge's answers on them, and with that text
+pub record IsReportOn (c : Check) (rows : List Row) (judged answers : List Judged) (text : List ℕ) (status : ℕ) (proof : Option (Vec ℕ)) : Type 0 where
+  pub answers_are : answers ≡ judged
+  pub text_is : text ≡ report_text c.bounds c.budget rows
+  pub status_is : status ≡ status_of rows
+  pub asked : IsProofAsked c.proof rows judged proof
 
 -- the report of two modules, with that text
 pub record IsReportOf (c : Check) (source target : Module) (answers : List Judged) (text : List ℕ) (status : ℕ) (proof : Option (Vec ℕ)) : Type 0 where

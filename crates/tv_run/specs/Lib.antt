@@ -8,3 +8,4 @@ pub mod Answers
 pub mod Laws
 pub mod Makes
 pub mod OneReading
+pub mod Texts

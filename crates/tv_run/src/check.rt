@@ -1,4 +1,4 @@
-//! The job `check`: two files to a report.
+//! The job `check`: two files to a report; and the report of two modules without a thread.
 
 ghost use Rattle.std.specs.Prelude.{◌≡◌, ◌+◌, ◌*◌, ◌^◌, ◌<◌, ◌≤◌, All, length, map, IfOk, IfErr, OnOk, option_map};
 ghost use Rattle.std.specs.List.{filter_map};
@@ -9,11 +9,11 @@ ghost use Rattle.tv_cli.specs.Seen.{seen_check};
 ghost use Rattle.tv_run.specs.Files.{WhereKnown};
 ghost use Rattle.tv_run.specs.Reports.{part_heading, row_heading};
 ghost use Rattle.tv_run.specs.Stops.{HasCause};
-ghost use Rattle.tv_run.specs.Answers.{CountsStop, HasReport, IsProofAsked, IsReportOf, IsJudgeableModule};
+ghost use Rattle.tv_run.specs.Answers.{CountsStop, HasReport, IsProofAsked, IsReportOf, IsReportOn, IsJudgeableModule};
 
 use ir_tree::Module;
 use module_files::{Stop, read_both_beside};
-use module_rows::{Judgements, all_rows};
+use module_rows::{Judgements, all_rows, rows_in_turn};
 use pair_driver::{Gate, Judged};
 use pair_judge::Real;
 use proof_files::proof_of;
@@ -76,15 +76,40 @@ fn report_of_modules<G: Gate, R: Threads + Sync>(
         bounds: check.bounds,
         budget: check.budget,
     };
-    let Judgements { rows, answers } = all_rows(
-        rt,
-        alloc,
-        &judge,
-        gate,
-        source,
-        target,
-        check.workers,
-    )?;
+    let judgements = all_rows(rt, alloc, &judge, gate, source, target, check.workers)?;
+    let report = report_on(alloc, check, judgements)?;
+    Ok(report)
+}
+
+/// The report of two modules, whose pairs are judged one after the other on the caller's thread, however
+/// many workers are asked for.
+pub fn report_in_turn(
+    alloc: Global,
+    check: &Check<'_>,
+    source: &Module,
+    target: &Module,
+) -> Result<Report, NoMemory>
+    requires in_range { AreInRange check.now.bounds check.now.budget }
+    requires source_is { IsJudgeableModule source.now }
+    requires target_is { IsJudgeableModule target.now }
+    ensures { IfOk result (λ r. IsReportOf (seen_check check.now) source.now target.now r.answers.items r.text.items r.status r.proof) }
+{
+    let bounds = check.bounds;
+    let budget = check.budget;
+    let judge = Real { bounds, budget };
+    let judgements = rows_in_turn(alloc, &judge, source, target)?;
+    let report = report_on(alloc, check, judgements)?;
+    Ok(report)
+}
+
+/// The report of rows, with the judge's answers.
+fn report_on(alloc: Global, check: &Check<'_>, judgements: Judgements) -> Result<Report, NoMemory>
+    requires names { All (λ row. IsReadName row.name) judgements.rows.items }
+    requires certified { All IsCertified (parts_of judgements.rows.items judgements.answers.items) }
+    requires each { map part_heading (parts_of judgements.rows.items judgements.answers.items) ≡ filter_map row_heading judgements.rows.items }
+    ensures { IfOk result (λ r. IsReportOn (seen_check check.now) judgements.rows.items judgements.answers.items r.answers.items r.text.items r.status r.proof) }
+{
+    let Judgements { rows, answers } = judgements;
     let proof = proof_asked(alloc, check.proof, rows.as_slice(), answers.as_slice())?;
     let status = status_of(rows.as_slice());
     let text = text_of(alloc, rows.as_slice(), &check.bounds, &check.budget)?;

@@ -17,10 +17,12 @@
 mod check;
 mod in_memory;
 mod laws;
+mod line_sink;
 mod lines;
 mod log;
 mod made;
 mod stop;
+mod texts;
 mod top;
 
 pub use in_memory::{Checked, run_in_memory};
@@ -29,4 +31,5 @@ pub use laws::{
     put_proofs_are_verified, reports_are_defined, reports_are_one, reports_are_sound,
     texts_have_one_list_of_rows,
 };
+pub use texts::{CheckedTexts, check_texts};
 pub use top::run;
