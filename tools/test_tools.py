@@ -254,7 +254,8 @@ REFUSED = [
     ("<2 x i8> %x", "ret i8 0", "<", "vector"),
     ("ptr %p", "%y = getelementptr %struct.s, ptr %p, i64 1\n  ret i8 0", "type %struct.s", "struct"),
     ("i8 %x", "%y = load i8, ptr @g\n  ret i8 %y", "global @g", "global"),
-    ("i8 %x", "%y = add i8 %x, undef\n  ret i8 %y", "undef", "undef"),
+    ("i8 %x", "%y = udiv i8 %x, undef\n  ret i8 %y", "undef", "undef"),
+    ("i8 %x", "%y = add i8 %x, undef\n  %z = udiv i8 1, %y\n  ret i8 %z", "%y", "undef"),
     ("ptr %p", "%y = ptrtoint ptr %p to i8\n  ret i8 %y", "ptrtoint", "pointer cast"),
     ("i128 %x", "ret i8 0", "i128", "type"),
 ]

@@ -36,7 +36,8 @@ ADVICE = {
               "apart",
     "global": "globals and constant expressions are not read: pass the address as a parameter "
               "on both sides",
-    "undef": "undef is read in `freeze` and `ret` alone: put poison or a parameter for it",
+    "undef": "a jump, a phi, a division, an access or a pointer would depend on undef, or a name on "
+             "more than 64 of them: freeze it first, or put a parameter for it",
     "pointer cast": "casts of pointers are not read: write the address by getelementptr",
     "atomic": "atomic and volatile accesses are not read",
     "type": "a type that is not read here: integers have 1 to 64 bits, memory holds i8, i16, "
@@ -102,7 +103,7 @@ def class_of(word, reason):
                         (CASTS, "pointer cast"), (ATOMICS, "atomic")):
         if word in words:
             return kind
-    if word == "undef":
+    if word == "undef" or reason == "UndefUse":
         return "undef"
     if re.fullmatch(r"i\d+|ptr", word):
         return "type"
