@@ -22,11 +22,12 @@ FLAGS = ["-std=c99", "-O1", "-g", "-Wall", "-Wextra", "-Werror", "-pthread"]
 VALGRIND = ["valgrind", "-q", "--leak-check=full", "--show-leak-kinds=all", "--error-exitcode=99"]
 WRAPPED = ["-Wl,--wrap=malloc,--wrap=realloc"]
 SECONDS = 600
+BUILD_SECONDS = 3600
 
 
-def run(words, folder):
+def run(words, folder, seconds=SECONDS):
     """The status of a command, and what it wrote."""
-    done = subprocess.run(words, cwd=folder, capture_output=True, text=True, timeout=SECONDS)
+    done = subprocess.run(words, cwd=folder, capture_output=True, text=True, timeout=seconds)
     return done.returncode, done.stdout + done.stderr
 
 
@@ -50,7 +51,7 @@ def missing():
         return None
     if not os.path.isdir(BELOW):
         return "crates/tv_c/out/libtv_c.a is not built (rt lib in crates/tv_c)"
-    status, said = run(["rt", "lib"], CRATE)
+    status, said = run(["rt", "lib"], CRATE, BUILD_SECONDS)
     if status != 0:
         raise SystemExit(f"{said}rt lib ended with status {status}")
     return None
