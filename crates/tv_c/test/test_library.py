@@ -4,9 +4,9 @@ where that is installed.
 
     crates/tv_c/test/test_library.py [-v]
 
-Needs cc, the kit's rt on the PATH, and the library, crates/tv_c/out/libtv_c.a; where that isn't there it is
-built by `rt lib`, if the libraries below it are. Where something isn't there, a line says so and the
-tests are skipped. The last line counts; the status is 1 where a case failed.
+Needs cc, the kit's rt on the PATH, and the library, crates/tv_c/out/libtv_c.a, which `rt lib` in crates/tv_c
+builds. Where something isn't there, a line says so and the tests are skipped. The last line counts; the
+status is 1 where a case failed.
 """
 import os
 import shutil
@@ -17,17 +17,15 @@ import tempfile
 HERE = os.path.dirname(os.path.realpath(__file__))
 CRATE = os.path.dirname(HERE)
 LIBRARY = os.path.join(CRATE, "out", "libtv_c.a")
-BELOW = os.path.join(os.path.dirname(CRATE), "tv_run", "out", "rlib")
 FLAGS = ["-std=c99", "-O1", "-g", "-Wall", "-Wextra", "-Werror", "-pthread"]
 VALGRIND = ["valgrind", "-q", "--leak-check=full", "--show-leak-kinds=all", "--error-exitcode=99"]
 WRAPPED = ["-Wl,--wrap=malloc,--wrap=realloc"]
 SECONDS = 600
-BUILD_SECONDS = 3600
 
 
-def run(words, folder, seconds=SECONDS):
+def run(words, folder):
     """The status of a command, and what it wrote."""
-    done = subprocess.run(words, cwd=folder, capture_output=True, text=True, timeout=seconds)
+    done = subprocess.run(words, cwd=folder, capture_output=True, text=True, timeout=SECONDS)
     return done.returncode, done.stdout + done.stderr
 
 
@@ -49,12 +47,7 @@ def missing():
         return "the kit's C library was not found"
     if os.path.exists(LIBRARY):
         return None
-    if not os.path.isdir(BELOW):
-        return "crates/tv_c/out/libtv_c.a is not built (rt lib in crates/tv_c)"
-    status, said = run(["rt", "lib"], CRATE, BUILD_SECONDS)
-    if status != 0:
-        raise SystemExit(f"{said}rt lib ended with status {status}")
-    return None
+    return "crates/tv_c/out/libtv_c.a is not built (rt lib in crates/tv_c)"
 
 
 def compiled(source, more, folder):
