@@ -1,6 +1,7 @@
 //! A search before its first decision.
 
 use crate::clauses::Clauses;
+use crate::forgetting::FIRST_MOST;
 use crate::luby::Luby;
 use crate::occurrences::Occurrences;
 use crate::order::Order;
@@ -72,6 +73,10 @@ impl Solver {
             cleared: 0,
             work: 0,
             looks: 0,
+            rated: Vec::new(alloc),
+            most_rated: FIRST_MOST,
+            stamps: zeros(alloc, variables.saturating_add(1))?,
+            stamp: 0,
             equalities: Vec::new(alloc),
             is_swept: false,
             is_reduced: false,
@@ -124,11 +129,10 @@ impl Solver {
     /// Adds a given clause: it is watched, or its one literal is true.
     fn give(&mut self, literals: &[u32]) -> Result<(), NoMemory> {
         let number = self.clauses.add(literals)?;
-        self.watches.extend()?;
         match literals {
             [] => self.conflict = number,
             [only] => self.force(*only, number)?,
-            _ => self.watch(number),
+            _ => self.watch(number)?,
         }
         Ok(())
     }

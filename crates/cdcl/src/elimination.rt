@@ -41,7 +41,7 @@ impl Solver {
             self.clear_units()?;
             self.subsume_all()?;
             self.eliminate_all(front)?;
-            self.watch_again();
+            self.watch_again()?;
         }
         Ok(())
     }
@@ -264,14 +264,16 @@ impl Solver {
     }
 
     /// Watches the clauses that are left, and no others.
-    fn watch_again(&mut self) {
+    fn watch_again(&mut self) -> Result<(), NoMemory> {
         self.watches.clear();
+        self.rated.clear();
         for number in 1..self.clauses.count().wrapping_add(1) {
             if self.occurrences.is_live(number) {
-                self.watch(number);
+                self.watch(number)?;
             }
         }
         self.head = self.trail.len();
+        Ok(())
     }
 
     /// Gives the variables that were resolved away values that make their clauses true, where each other

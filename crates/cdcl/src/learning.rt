@@ -48,7 +48,6 @@ impl Solver {
     pub fn keep(&mut self, learned: Learned) -> Result<u32, NoMemory> {
         let Learned { chain, literals } = learned;
         let number = self.clauses.add(&literals)?;
-        self.watches.extend()?;
         self.note(&literals, chain)?;
         Ok(number)
     }
@@ -60,7 +59,6 @@ impl Solver {
             chain.push(*number as u64)?;
         }
         let number = self.clauses.add(literals)?;
-        self.watches.extend()?;
         self.note(literals, chain)?;
         Ok(number)
     }
@@ -69,13 +67,15 @@ impl Solver {
     /// literals but one of what is learned are false, and makes that one true.
     pub fn learn(&mut self, conflict: u32) -> Result<(), NoMemory> {
         let mut learned = self.analyze(conflict)?;
+        let levels = self.count_levels(&learned.literals);
         let level = self.level_behind(&mut learned.literals);
         self.go_back(level)?;
         let first = learned.literals.first().copied();
         let is_long = learned.literals.len() > 1;
         let number = self.keep(learned)?;
         if is_long {
-            self.watch(number);
+            self.watch(number)?;
+            self.rate(number, levels)?;
         }
         if let Some(first) = first {
             self.trail.assign(first, number)?;

@@ -16,6 +16,7 @@ mod begin;
 mod clauses;
 mod definitions;
 mod elimination;
+mod forgetting;
 mod learning;
 mod luby;
 mod needed;

@@ -3,7 +3,17 @@
 use crate::clauses::Span;
 use crate::search::Solver;
 use crate::trail::opposite;
+use crate::watches::Watch;
 use support::NoMemory;
+
+/// What becomes of a watch whose literal is false.
+enum Visit {
+    Stays(Watch),
+    /// Another literal is watched in its place.
+    Moves,
+    /// Its clause is false.
+    Fails(Watch),
+}
 
 impl Solver {
     /// Makes true what follows from the trail; the number of a clause that is false, or 0.
@@ -25,47 +35,72 @@ impl Solver {
     /// Looks at the clauses that watch a literal, which became false; the number of one that is false,
     /// or 0.
     fn visit_all(&mut self, literal: u32) -> Result<u32, NoMemory> {
-        let mut watch = self.watches.take(literal);
+        let mut watches = self.watches.take(literal);
+        let mut kept: u32 = 0;
         let mut conflict = 0;
-        for _ in 0..self.watches.most() {
-            if watch == 0 {
+        for index in 0..watches.len() {
+            let Some(watch) = watches.get(index).copied() else {
                 break;
-            }
-            self.looks = self.looks.wrapping_add(1);
-            let after = self.watches.after(watch);
-            if conflict > 0 {
-                self.watches.link(literal, watch);
+            };
+            let left = if conflict > 0 {
+                Some(watch)
             } else {
-                conflict = self.visit(literal, watch)?;
+                match self.visit(literal, watch)? {
+                    Visit::Stays(watch) => Some(watch),
+                    Visit::Moves => None,
+                    Visit::Fails(watch) => {
+                        conflict = watch.number();
+                        Some(watch)
+                    }
+                }
+            };
+            if let Some(watch) = left
+                && let Some(cell) = watches.get_mut(kept as usize)
+            {
+                *cell = watch;
+                kept = kept.wrapping_add(1);
             }
-            watch = after;
         }
+        self.looks = self.looks.wrapping_add(watches.len() as u64);
+        watches.truncate(kept as usize);
+        self.watches.give(literal, watches);
         Ok(conflict)
     }
 
-    /// Looks at the clause of a watch whose literal became false: another literal is watched, or its
-    /// other watched literal follows. The clause's number where it is false, else 0.
-    fn visit(&mut self, literal: u32, watch: u32) -> Result<u32, NoMemory> {
-        let number = watch.wrapping_add(1) / 2;
-        let span = self.clauses.span(number);
-        let mine = span.begin.wrapping_add(watch.wrapping_add(1) & 1);
-        let other = self.clauses.literal(span.begin.wrapping_add(watch & 1));
-        if self.trail.is_true(other) {
-            self.watches.link(literal, watch);
-            return Ok(0);
+    /// Looks at a watch whose literal became false: its clause is true, or has another literal to watch,
+    /// or its other watched literal follows.
+    fn visit(&mut self, literal: u32, watch: Watch) -> Result<Visit, NoMemory> {
+        if self.trail.is_true(watch.other) {
+            return Ok(Visit::Stays(watch));
         }
-        if let Some(place) = self.replacement(span) {
-            let next = self.clauses.literal(place);
-            self.clauses.swap(mine, place);
-            self.watches.link(next, watch);
-            return Ok(0);
+        if watch.is_short() {
+            return self.follow(watch);
         }
-        self.watches.link(literal, watch);
-        if self.trail.is_false(other) {
-            return Ok(number);
+        let span = self.clauses.span(watch.number());
+        let second = span.begin.wrapping_add(1);
+        if self.clauses.literal(span.begin) == literal {
+            self.clauses.swap(span.begin, second);
         }
-        self.trail.assign(other, number)?;
-        Ok(0)
+        let watch = Watch::new(watch.number(), false, self.clauses.literal(span.begin));
+        if self.trail.is_true(watch.other) {
+            return Ok(Visit::Stays(watch));
+        }
+        let Some(place) = self.replacement(span) else {
+            return self.follow(watch);
+        };
+        let next = self.clauses.literal(place);
+        self.clauses.swap(second, place);
+        self.watches.add(next, watch)?;
+        Ok(Visit::Moves)
+    }
+
+    /// The other watched literal follows where it has no value.
+    fn follow(&mut self, watch: Watch) -> Result<Visit, NoMemory> {
+        if self.trail.is_false(watch.other) {
+            return Ok(Visit::Fails(watch));
+        }
+        self.trail.assign(watch.other, watch.number())?;
+        Ok(Visit::Stays(watch))
     }
 
     /// The place of a literal that isn't watched and not false.
@@ -79,12 +114,14 @@ impl Solver {
     }
 
     /// Watches the literals at the first two places of a clause.
-    pub fn watch(&mut self, number: u32) {
+    pub fn watch(&mut self, number: u32) -> Result<(), NoMemory> {
         let span = self.clauses.span(number);
-        let second = number.wrapping_mul(2);
-        let first = second.wrapping_sub(1);
-        self.watches.link(self.clauses.literal(span.begin), first);
+        let is_short = self.clauses.length(number) == 2;
+        let first = self.clauses.literal(span.begin);
+        let second = self.clauses.literal(span.begin.wrapping_add(1));
         self.watches
-            .link(self.clauses.literal(span.begin.wrapping_add(1)), second);
+            .add(first, Watch::new(number, is_short, second))?;
+        self.watches
+            .add(second, Watch::new(number, is_short, first))
     }
 }

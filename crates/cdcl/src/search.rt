@@ -2,6 +2,7 @@
 
 use crate::begin::code_of;
 use crate::clauses::Clauses;
+use crate::forgetting::Rated;
 use crate::luby::Luby;
 use crate::occurrences::Occurrences;
 use crate::order::Order;
@@ -63,6 +64,13 @@ pub struct Solver {
     pub(crate) work: u64,
     /// How many watches were looked at.
     pub(crate) looks: u64,
+    /// The learned clauses that may be forgotten.
+    pub(crate) rated: Vec<Rated>,
+    /// Once there are this many of them, some are forgotten.
+    pub(crate) most_rated: usize,
+    /// The number of the last clause for which each level was counted.
+    pub(crate) stamps: Vec<u32>,
+    pub(crate) stamp: u32,
     /// The numbers of the clauses that make gates equal.
     pub(crate) equalities: Vec<u32>,
     /// Whether equal gates were looked for.
@@ -119,6 +127,7 @@ impl Solver {
                 break;
             }
             self.go_back(0)?;
+            self.forget_some()?;
         }
         Ok(Course::GoesOn)
     }

@@ -228,7 +228,7 @@ impl Solver {
     fn keep_equality(&mut self) -> Result<(), NoMemory> {
         let number = self.clauses.count();
         if self.clauses.length(number) == 2 {
-            self.watch(number);
+            self.watch(number)?;
             self.equalities.push(number)?;
         }
         Ok(())

@@ -1,63 +1,99 @@
-//! Which clauses watch which literals: for each literal a linked list of watches.
+//! Which clauses watch which literals.
 //!
-//! Clause `n` has the watches `2 n - 1` and `2 n`, of the literals at its first and its second place.
-//! 0 is no watch.
+//! Each clause watches two of its literals, which come first in it. With a watch stands another literal
+//! of the clause: where that one is true the clause isn't looked at, and a clause of two literals never
+//! is (N. Sörensson and N. Eén, "MiniSat 2.1", 2008).
 
-use crate::tables::{at, put, zeros};
+use crate::tables::byte_at;
 use std::alloc::Global;
+use std::mem;
 use support::NoMemory;
+
+/// The bit of a watch whose clause has two literals.
+const SHORT: u32 = 1 << 31;
+
+/// A clause that watches a literal.
+#[derive(Clone, Copy)]
+pub struct Watch {
+    /// The number of the clause, and its bit.
+    clause: u32,
+    /// Another literal of the clause.
+    pub other: u32,
+}
+
+impl Watch {
+    /// The watch of a clause with this number, which has two literals or more, with another of them.
+    pub fn new(number: u32, is_short: bool, other: u32) -> Watch {
+        let bit = if is_short { SHORT } else { 0 };
+        Watch {
+            clause: number | bit,
+            other,
+        }
+    }
+
+    /// The number of the clause.
+    pub fn number(self) -> u32 {
+        self.clause & !SHORT
+    }
+
+    /// Whether the clause has two literals.
+    pub fn is_short(self) -> bool {
+        self.clause >= SHORT
+    }
+}
 
 /// The watches of each literal.
 #[derive(Drop)]
 pub struct Watches {
-    first: Vec<u32>,
-    next: Vec<u32>,
+    alloc: Global,
+    lists: Vec<Vec<Watch>>,
 }
 
 impl Watches {
     /// No watches, of this many literals.
     pub fn new(alloc: Global, literals: usize) -> Result<Watches, NoMemory> {
-        Ok(Watches {
-            first: zeros(alloc, literals)?,
-            next: zeros(alloc, 1)?,
-        })
-    }
-
-    /// Room for the watches of one more clause.
-    pub fn extend(&mut self) -> Result<(), NoMemory> {
-        self.next.push(0)?;
-        self.next.push(0)?;
-        Ok(())
+        let mut lists = Vec::new(alloc);
+        for _ in 0..literals {
+            lists.push(Vec::new(alloc))?;
+        }
+        Ok(Watches { alloc, lists })
     }
 
     /// Takes all watches away.
     pub fn clear(&mut self) {
-        for cell in self.first.iter_mut() {
-            *cell = 0;
+        for list in self.lists.iter_mut() {
+            list.clear();
         }
     }
 
-    /// How many watches there may be in a list.
-    pub fn most(&self) -> usize {
-        self.next.len()
+    /// Takes the list of a literal, which has none then.
+    pub fn take(&mut self, literal: u32) -> Vec<Watch> {
+        let none = Vec::new(self.alloc);
+        match self.lists.get_mut(literal as usize) {
+            Some(list) => mem::replace(list, none),
+            None => none,
+        }
     }
 
-    /// Takes the list of a literal; its first watch.
-    pub fn take(&mut self, literal: u32) -> u32 {
-        let watch = at(&self.first, literal);
-        put(&mut self.first, literal, 0);
-        watch
+    /// Gives a literal a list in the place of its own.
+    pub fn give(&mut self, literal: u32, watches: Vec<Watch>) {
+        if let Some(list) = self.lists.get_mut(literal as usize) {
+            *list = watches;
+        }
     }
 
-    /// The watch after one in its list.
-    pub fn after(&self, watch: u32) -> u32 {
-        at(&self.next, watch)
+    /// Adds a watch to those of a literal.
+    pub fn add(&mut self, literal: u32, watch: Watch) -> Result<(), NoMemory> {
+        if let Some(list) = self.lists.get_mut(literal as usize) {
+            list.push(watch)?;
+        }
+        Ok(())
     }
 
-    /// Puts a watch before those of a literal.
-    pub fn link(&mut self, literal: u32, watch: u32) {
-        let before = at(&self.first, literal);
-        put(&mut self.next, watch, before);
-        put(&mut self.first, literal, watch);
+    /// Takes the watches of the clauses away that are marked by 1.
+    pub fn forget(&mut self, marks: &[u8]) {
+        for list in self.lists.iter_mut() {
+            list.retain(|watch| byte_at(marks, watch.number()) == 0);
+        }
     }
 }

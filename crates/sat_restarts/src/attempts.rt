@@ -17,7 +17,7 @@ use support::NoMemory;
 use watch_solver::{Answer, solve};
 
 /// How many conflicts the first turns have.
-const FIRST_LENGTH: u64 = 2000;
+const FIRST_LENGTH: u64 = 3000;
 
 /// A search in order learns as many clauses as a turn has conflicts where there are this many clauses, and
 /// fewer in proportion where there are more.
