@@ -22,7 +22,11 @@ pub fn mark_at(tokens: &Tokens<'_>, place: usize) -> u8
     requires { place < length tokens.now }
     ensures { IsSomeAnd (slice_get tokens.now place) (λ t. result ≡ mark_of t) }
 {
-    mark_in(tokens.kind(place), tokens.text(place))
+    let kind = tokens.kind(place);
+    if kind != Kind::Mark {
+        return 0;
+    }
+    mark_in(kind, tokens.text(place))
 }
 
 fn opens(mark: u8) -> bool

@@ -1,8 +1,23 @@
 // Blanks and comments.
-ghost use Rattle.std.specs.Prelude.{◌≡◌, ◌≤◌, ℕ, length, false, drop};
+ghost use Rattle.std.specs.Prelude.{◌≡◌, ◌≤◌, ℕ, length, true, false, drop};
 ghost use Rattle.ir_lexer.specs.Tokens.{behind_blanks};
 
 use crate::bytes;
+
+/// What follows a comment, after its `;`: the text after the line feed, or the end.
+fn behind_comment(text: &[u8]) -> &[u8]
+    ensures value { behind_blanks false result.now ≡ behind_blanks true text.now }
+    ensures within { length result.now ≤ length text.now }
+{
+    let mut rest = text;
+    while let [first, after @ ..] = rest {
+        rest = after;
+        if *first == b'\n' {
+            break;
+        }
+    }
+    rest
+}
 
 /// What follows the leading blanks and comments.
 fn behind_blanks(text: &[u8]) -> &[u8]
@@ -10,17 +25,14 @@ fn behind_blanks(text: &[u8]) -> &[u8]
     ensures within { length result.now ≤ length text.now }
 {
     let mut rest = text;
-    let mut inside = false;
     while let [first, after @ ..] = rest {
-        let first = *first;
-        if inside {
-            inside = first != b'\n';
-        } else if first == b';' {
-            inside = true;
-        } else if !bytes::is_blank(first) {
+        if bytes::is_blank(*first) {
+            rest = after;
+        } else if *first == b';' {
+            rest = behind_comment(after);
+        } else {
             break;
         }
-        rest = after;
     }
     rest
 }

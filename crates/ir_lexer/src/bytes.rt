@@ -1,12 +1,33 @@
 // Classes of bytes.
-ghost use Rattle.std.specs.Prelude.{◌≡◌};
+ghost use Rattle.std.specs.Prelude.{◌≡◌, get_or};
 ghost use Rattle.ir_lexer.specs.Bytes.{is_digit, begins_word, is_name_byte, begins_name, is_hexadecimal_digit, is_float_kind, is_sign, is_blank, is_mark_byte, is_lone_mark, begins_plain_word, begins_number};
+ghost use Rattle.ir_lexer.specs.declared.bytes.TheConstants.{CLASSES};
+
+// The class of each byte as a letter, a small one for each byte of a name: `w` only begins words and
+// labels, `c` also strings, `p` is the point, `n` a digit, `m` the minus and `s` the dollar. A line
+// stands for the blanks, a comma for the marks that begin no longer token, a point for the others.
+static CLASSES: [u8; 256] = *b"\
+    .........__.._..................\
+    _...s...,,,.,mp.nnnnnnnnnn,.,,,.\
+    .wwwwwwwwwwwwwwwwwwwwwwwwww,.,.w\
+    .wwcwwwwwwwwwwwwwwwwwwwwwww,,,..\
+    ................................\
+    ................................\
+    ................................\
+    ................................";
+
+// The class of a byte in the table.
+fn class_of(b: u8) -> u8
+    ensures { result ≡ get_or CLASSES b 0 }
+{
+    CLASSES[b as usize]
+}
 
 /// A space, a tab, a line feed or a carriage return, which separate tokens.
 pub fn is_blank(b: u8) -> bool
     ensures { result ≡ is_blank b }
 {
-    b == b' ' || b == b'\t' || b == b'\n' || b == b'\r'
+    class_of(b) == b'_'
 }
 
 /// A decimal digit.
@@ -27,14 +48,15 @@ pub fn begins_word(b: u8) -> bool
 pub fn is_name_byte(b: u8) -> bool
     ensures { result ≡ is_name_byte b }
 {
-    begins_word(b) || is_digit(b) || b == b'-' || b == b'$'
+    b'a' <= class_of(b)
 }
 
 /// What may follow the sign of a name: what begins a word, `-` or `$`.
 pub fn begins_name(b: u8) -> bool
     ensures { result ≡ begins_name b }
 {
-    begins_word(b) || b == b'-' || b == b'$'
+    let class = class_of(b);
+    b'a' <= class && class != b'n'
 }
 
 /// A hexadecimal digit, with a small letter or a capital.
@@ -82,19 +104,20 @@ pub fn is_mark_byte(b: u8) -> bool
 pub fn is_lone_mark(b: u8) -> bool
     ensures { result ≡ is_lone_mark b }
 {
-    is_mark_byte(b) && b != b'!'
+    class_of(b) == b','
 }
 
 /// A letter or `_` with which only words and labels begin: not `c`, which also begins strings.
 pub fn begins_plain_word(b: u8) -> bool
     ensures { result ≡ begins_plain_word b }
 {
-    begins_word(b) && b != b'.' && b != b'c'
+    class_of(b) == b'w'
 }
 
 /// A digit or a minus.
 pub fn begins_number(b: u8) -> bool
     ensures { result ≡ begins_number b }
 {
-    is_digit(b) || b == b'-'
+    let class = class_of(b);
+    class == b'n' || class == b'm'
 }

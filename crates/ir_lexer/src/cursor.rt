@@ -1,12 +1,14 @@
-ghost use Rattle.std.specs.Prelude.{◌≡◌, ◌<◌, ◌≤◌, ℕ, length};
+ghost use Rattle.std.specs.Prelude.{◌≡◌, ◌+◌, ◌<◌, ◌≤◌, ◌^◌, ◌++◌, ℕ, List, length, take, Option, Some, None, IfSome};
+ghost use Rattle.text_places.specs.Place.{place_behind};
+ghost use Rattle.ir_lexer.specs.Tokens.{longest_token};
 ghost use Rattle.ir_lexer.specs.Position.{start_of, bytes_before, behind, IsWithin, Reads};
 ghost use Rattle.ir_lexer.specs.Scan.{name_run};
 
 use crate::blanks::blanks_len;
 use crate::lexing::LexFault;
 use crate::parts::name_run;
-use crate::scan::first_token;
-use crate::token::Token;
+use crate::scan::{first_token, plain_token};
+use crate::token::{Kind, Token};
 use std::marker::Model;
 use text_places::Place;
 
@@ -16,6 +18,37 @@ fn run_at_front(text: &[u8], known: usize) -> usize
     ensures { result ≡ name_run text.now }
 {
     if known == 0 { name_run(text) } else { known }
+}
+
+// The longest token at the start of a text: its class, its length, and the position behind it.
+#[derive(Clone, Copy)]
+struct Front {
+    kind: Kind,
+    len: usize,
+    after: Place,
+}
+
+// The longest token at the start of a text, which begins at this position. The run is that of the
+// leading name bytes. Only a token that may have quotes is looked through for line feeds.
+fn front_of(text: &[u8], run: usize, place: Place) -> Option<Front>
+    requires run { run ≡ name_run text.now }
+    requires line { place.line + length text.now < 2 ^ 64 }
+    requires column { place.column + length text.now < 2 ^ 64 }
+    ensures found { IfSome result (λ f. longest_token text.now ≡ Some (f.kind, f.len)) }
+    ensures none { result ≡ None → longest_token text.now ≡ None }
+    ensures bounds { IfSome result (λ f. (0 < f.len) × (f.len ≤ length text.now)) }
+    ensures after { IfSome result (λ f. (before : List ℕ) → place ≡ place_behind before → f.after ≡ place_behind (before ++ take f.len text.now)) }
+{
+    if let Some((kind, len)) = plain_token(text, run) {
+        let after = Place {
+            line: place.line,
+            column: place.column + len as u64,
+        };
+        return Some(Front { kind, len, after });
+    }
+    let (kind, len) = first_token(text, run)?;
+    let after = place.behind(text.split_at(len).0);
+    Some(Front { kind, len, after })
 }
 
 /// A position in a text, before a token or at the end. Contracts see the text and what is left of
@@ -64,17 +97,17 @@ impl<'a> Cursor<'a> {
         }
         let at = self.text.len() - self.rest.len();
         let run = run_at_front(self.rest, self.run);
-        let Some((kind, len)) = first_token(self.rest, run) else {
+        let Some(front) = front_of(self.rest, run, self.place) else {
             return Err(LexFault::NoToken {
                 at,
                 place: self.place,
             });
         };
-        let (front, after) = self.rest.split_at(len);
+        let (bytes, after) = self.rest.split_at(front.len);
         let (blanks, rest) = after.split_at(blanks_len(after));
-        let token = Token::new(kind, front, at, self.place);
-        self.place = self.place.behind(front).behind(blanks);
-        self.run = run.saturating_sub(len);
+        let token = Token::new(front.kind, bytes, at, self.place);
+        self.place = front.after.behind(blanks);
+        self.run = run.saturating_sub(front.len);
         self.rest = rest;
         Ok(Some(token))
     }

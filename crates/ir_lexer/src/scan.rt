@@ -3,7 +3,8 @@
 // a few classes, and only those are looked at. Each looks at the bytes that it takes and at no more
 // than two after them, except a label, which needs the end of its run of name bytes: that is passed
 // in, so that the tokens of one run don't each look for it again.
-ghost use Rattle.std.specs.Prelude.{◌≡◌, ◌+◌, ◌≤◌, ◌==◌, ◌<◌, ◌^◌, ℕ, length, Option, IfSome};
+ghost use Rattle.std.specs.Prelude.{◌≡◌, ◌+◌, ◌≤◌, ◌==◌, ◌<◌, ◌^◌, ◌∷◌, ℕ, length, take, get_or, count_by, true, Option, Some, IfSome};
+ghost use Rattle.text_places.specs.Place.{is_line_feed};
 ghost use Rattle.std.specs.Option.{option_copied, ForSome};
 ghost use Rattle.ir_lexer.specs.Bytes.{is_digit, is_sign, is_float_kind, is_hexadecimal_digit, is_mark_byte};
 ghost use Rattle.ir_lexer.specs.Parts.{behind_one};
@@ -13,7 +14,7 @@ ghost use Rattle.ir_lexer.specs.Tokens.{longest_token};
 use crate::bytes;
 use crate::parts::{
     after_byte, after_digits, after_sign, behind_hexadecimal_digits, behind_name_bytes,
-    behind_quoted_bytes, shorter,
+    behind_quoted_bytes, name_run, shorter,
 };
 use crate::token::Kind;
 
@@ -294,6 +295,41 @@ fn word_or_label(run: usize, rest: &[u8]) -> (Kind, usize)
     }
 }
 
+// The token at the start, where it is a local name without quotes that is no number. What follows the
+// `%` is passed in.
+fn plain_local(rest: &[u8]) -> Option<(Kind, usize)>
+    requires { 1 + length rest.now < 2 ^ 64 }
+    ensures token { IfSome result (λ found. scan.front_token (37 ∷ rest.now) ≡ Some found) }
+    ensures line { IfSome result (λ found. count_by is_line_feed (take found.1 (37 ∷ rest.now)) ≡ 0) }
+{
+    match rest {
+        [first, ..] if bytes::begins_name(*first) => Some((Kind::Local, 1 + name_run(rest))),
+        _ => None,
+    }
+}
+
+/// The token at the start, where its first bytes tell its class and no quotes begin there: a mark, a
+/// local name, a word or a label. It has no line feed. The run is that of the leading name bytes.
+pub fn plain_token(text: &[u8], run: usize) -> Option<(Kind, usize)>
+    requires { run ≡ scan.name_run text.now }
+    ensures token { IfSome result (λ found. scan.front_token text.now ≡ Some found) }
+    ensures line { IfSome result (λ found. count_by is_line_feed (take found.1 text.now) ≡ 0) }
+{
+    let [first, rest @ ..] = text else {
+        return None;
+    };
+    let first = *first;
+    if bytes::is_lone_mark(first) {
+        Some((Kind::Mark, 1))
+    } else if first == b'%' {
+        plain_local(rest)
+    } else if bytes::begins_plain_word(first) {
+        Some(word_or_label(run, text.split_at(run).1))
+    } else {
+        None
+    }
+}
+
 // The longest token at the start.
 #[tactic(auto, using(crate::proofs::Behind::runs))]
 fn dispatched(text: &[u8], run: usize) -> Option<(Kind, usize)>
@@ -304,12 +340,8 @@ fn dispatched(text: &[u8], run: usize) -> Option<(Kind, usize)>
         return None;
     };
     let first = *first;
-    if bytes::is_lone_mark(first) {
-        Some((Kind::Mark, 1))
-    } else if first == b'%' {
+    if first == b'%' {
         longer(None, Kind::Local, text, after_named(b'%', text))
-    } else if bytes::begins_plain_word(first) {
-        Some(word_or_label(run, text.split_at(run).1))
     } else if bytes::begins_number(first) {
         number_token(text, run)
     } else {

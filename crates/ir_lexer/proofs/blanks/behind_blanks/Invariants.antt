@@ -3,7 +3,7 @@ use Rattle.ir_lexer.proofs.blanks.behind_blanks.Given as goal
 
 abbrev pub invariant-loop-rest : goal.invariant-loop-rest
 invariant-loop-rest l = record {
-  same : behind_blanks l.inside l.rest ≡ behind_blanks false l.text;
+  same : behind_blanks false l.rest ≡ behind_blanks false l.text;
   within : length l.rest ≤ length l.text;
 }
 
