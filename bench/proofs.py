@@ -16,7 +16,6 @@ import time
 
 SOURCE = "define i10 @f(i10 %x, i10 %y) {\n  %m = urem i10 %x, %y\n  %r = urem i10 %m, %y\n  ret i10 %r\n}\n"
 TARGET = "define i10 @f(i10 %x, i10 %y) {\n  %m = urem i10 %x, %y\n  ret i10 %m\n}\n"
-HEAD = "tvproof 1\n"
 
 
 def made(tv, folder, size):
@@ -26,9 +25,10 @@ def made(tv, folder, size):
             file.write(text)
     subprocess.run([tv, "check", names[0], names[1], "--proof", names[2]], check=True, stdout=subprocess.DEVNULL)
     with open(names[2]) as file:
-        part = file.read().removeprefix(HEAD)
+        text = file.read()
+    head, part = text[:text.index("row @")], text[text.index("row @"):]
     with open(names[2], "w") as file:
-        file.write(HEAD)
+        file.write(head)
         for _ in range(max(1, size // len(part))):
             file.write(part)
     return names[2]

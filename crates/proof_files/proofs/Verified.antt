@@ -1,5 +1,5 @@
 -- A log that refutes has no first bad step, so parts that refute are verified, and so is what is read of their text.
-use Rattle.std.proofs.Common.{ℕ, ◌≡◌, ◌+◌, ◌++◌, List, [], ◌∷◌, Option, Some, None, length, refl, ap, ap₂, subst, sym, ◌∙◌, ⊎_elim, is_none, nat_eq, cond, arith}
+use Rattle.std.proofs.Common.{ℕ, ◌≡◌, ◌++◌, List, [], ◌∷◌, Option, Some, None, length, refl, ap, ap₂, subst, sym, ◌∙◌, ⊎_elim, is_none, nat_eq, cond, arith}
 use Rattle.std.specs.List.{AllZip, flat_map}
 use Rattle.std.proofs.lemmas.List.Elements.{All-cons, All-head, All-nil, All-tail, length_all_zip}
 use Rattle.std.proofs.lemmas.List.Sums.{sum_by-cons}
@@ -7,9 +7,9 @@ use Rattle.clause_lits.specs.declared.lit.Lit.{Lit}
 use Rattle.clause_log.specs.declared.step.Step.{Step}
 use Rattle.clause_log.specs.Refutation.{Refutes, IsFirstBad}
 use Rattle.proof_text.specs.declared.part.Part.{Part}
-use Rattle.proof_text.specs.OneReading.{AreSameButFronts, IsSameButFront, PartsAreOne}
-use Rattle.proof_files.specs.Checks.{IsBadStep, bad_count, counts_line, outcome_line, outcome_lines, verified_count}
-use Rattle.proof_files.specs.Laws.{AllRefute, ProofsAreVerified, TextsAreVerified}
+use Rattle.proof_text.specs.OneReading.{AreSameButFronts, IsSameButFront, ProofsAreOne}
+use Rattle.proof_files.specs.Checks.{AreChecked, IsBadStep, bad_count, counts_line, outcome_line, outcome_lines, verified_count}
+use Rattle.proof_files.specs.Laws.{AllRefute, AreVerified, ProofsAreVerified, TextsAreVerified}
 
 pub no_bad_step : (clauses : List (List Lit)) (log : List Step) (index : ℕ) → Refutes clauses log → IsFirstBad clauses log index → ⊥
 no_bad_step clauses log index refutes bad = ⊎_elim (λ step. step.1 (refutes.sound index step.0)) (λ last. last.1 refutes.empty) bad.here
@@ -37,13 +37,16 @@ none_is_bad (p ∷ ps) (None ∷ xs) all each =
     }
 none_is_bad (p ∷ ps) (Some index ∷ xs) all each = absurd (no_bad_step p.cert.cnf.clauses p.cert.log index (All-head DoesRefute p ps all) each.0)
 
-pub verified : ProofsAreVerified
-verified parts lines status all checked =
+parts_verified : (parts : List Part) (lines : List ℕ) (status : ℕ) → AllRefute parts → AreChecked parts lines status → AreVerified parts lines status
+parts_verified parts lines status all checked =
     let none = none_is_bad parts checked.found all checked.each in
     record {
       lines_are = checked.text_is ∙ ap₂ (λ (t c : List ℕ). t ++ c) none.lines (ap₂ counts_line none.verified none.bad);
       status_is = checked.status_is ∙ ap (λ n. cond (nat_eq n 0) 0 1) none.bad;
     }
+
+pub verified : ProofsAreVerified
+verified proof = parts_verified proof.parts
 
 -- ---- what is read of a text
 
@@ -67,12 +70,12 @@ same_lines [] (q ∷ qs) same = absurd same
 same_lines (p ∷ ps) [] same = absurd same
 same_lines (p ∷ ps) (q ∷ qs) same = ap₂ (λ (t rest : List ℕ). t ++ rest) (same_line p q same.0) (same_lines ps qs same.1)
 
-pub texts_verified : PartsAreOne → TextsAreVerified
-texts_verified parts_are_one text parts others lines status written all read checked =
-    let same = parts_are_one text parts others written read in
-    let found = verified others lines status (all_refute parts others same all) checked in
-    let long = length_all_zip IsSameButFront parts others same in
+pub texts_verified : ProofsAreOne → TextsAreVerified
+texts_verified proofs_are_one text proof other lines status written all read checked =
+    let same = (proofs_are_one text proof other written read).parts in
+    let found = parts_verified other.parts lines status (all_refute proof.parts other.parts same all) checked in
+    let long = length_all_zip IsSameButFront proof.parts other.parts same in
     record {
-      lines_are = found.lines_are ∙ sym (ap₂ (λ (t : List ℕ) (n : ℕ). t ++ counts_line n 0) (same_lines parts others same) long);
+      lines_are = found.lines_are ∙ sym (ap₂ (λ (t : List ℕ) (n : ℕ). t ++ counts_line n 0) (same_lines proof.parts other.parts same) long);
       status_is = found.status_is;
     }

@@ -6,19 +6,21 @@ use Rattle.std.proofs.lemmas.List.Elements.{All-head, All-tail}
 use Rattle.std.proofs.lemmas.List.Sums.{count_by-le-length, sum_by-append}
 use Rattle.pair_driver.specs.declared.judged.Judged.{Judged}
 use Rattle.report.specs.declared.row.Row.{Row}
+use Rattle.proof_text.specs.declared.part.Head.{Head}
 use Rattle.proof_text.specs.declared.part.Part.{Part}
+use Rattle.proof_text.specs.declared.part.Proof.{Proof}
 use Rattle.clause_log.specs.declared.step.Cert.{Cert}
 use Rattle.ir_naming.specs.Naming.{name_text}
-use Rattle.proof_text.specs.Format.{IsProof, part_of}
+use Rattle.proof_text.specs.Format.{IsProof, part_of, proof_with, with_parts}
 use Rattle.proof_files.specs.Checks.{AreChecked, IsBadStep, bad_count, counts_line, outcome_line, outcome_lines, verified_count}
 use Rattle.proof_files.specs.Parts.{IsCertified, decided, left_after, parts_of, row_parts}
 
 -- ---- rows
 
--- the text is that of the rows before, and these are the answers for those that are left
-pub record IsWalked (rows : List Row) (answers : List Judged) (i : ℕ) (left : List Judged) (text : List ℕ) : Type 0 where
+-- the text is that of the head and of the rows before, and these are the answers for those that are left
+pub record IsWalked (head : Head) (rows : List Row) (answers : List Judged) (i : ℕ) (left : List Judged) (text : List ℕ) : Type 0 where
   pub done : List Part
-  pub written : IsProof text done
+  pub written : IsProof text (proof_with (Some head) done)
   pub all : parts_of rows answers ≡ done ++ parts_of (drop i rows) left
 
 next_row : (rows : List Row) (i : ℕ) (row : Row) → i < length rows → row ≡ get_or rows i row → drop i rows ≡ row ∷ drop (i + 1) rows
@@ -28,8 +30,8 @@ next_row rows i row below is = drop_more rows i row below ∙ ap (λ (r : Row). 
 next_parts : (rows : List Row) (i : ℕ) (row : Row) (left : List Judged) → i < length rows → row ≡ get_or rows i row → parts_of (drop i rows) left ≡ row_parts row left ++ parts_of (drop (i + 1) rows) (left_after row.finding left)
 next_parts rows i row left below is = ap (λ (rs : List Row). parts_of rs left) (next_row rows i row below is)
 
-pub next_certified : (rows : List Row) (answers : List Judged) (i : ℕ) (row : Row) (left : List Judged) (text : List ℕ) → i < length rows → row ≡ get_or rows i row → IsWalked rows answers i left text → All IsCertified (parts_of rows answers) → All IsCertified (row_parts row left)
-next_certified rows answers i row left text below is walked all =
+pub next_certified : (head : Head) (rows : List Row) (answers : List Judged) (i : ℕ) (row : Row) (left : List Judged) (text : List ℕ) → i < length rows → row ≡ get_or rows i row → IsWalked head rows answers i left text → All IsCertified (parts_of rows answers) → All IsCertified (row_parts row left)
+next_certified head rows answers i row left text below is walked all =
     let more = subst (λ (ps : List Part). All IsCertified ps) (walked.all ∙ ap (λ (ps : List Part). walked.done ++ ps) (next_parts rows i row left below is)) all in
     first (row_parts row left) _ (rest walked.done _ more)
   where
@@ -40,6 +42,14 @@ next_certified rows answers i row left text below is walked all =
     rest : (xs ys : List Part) → All IsCertified (xs ++ ys) → All IsCertified ys
     rest [] ys h = h
     rest (x ∷ xs) ys h = rest xs ys (All-tail IsCertified x (xs ++ ys) h)
+
+pub row_walked : (head : Head) (rows : List Row) (answers : List Judged) (i : ℕ) (row : Row) (left : List Judged) (text new : List ℕ) → i < length rows → row ≡ get_or rows i row → IsWalked head rows answers i left text
+    → ((proof : Proof) → IsProof text proof → IsProof new (with_parts proof (row_parts row left))) → IsWalked head rows answers (i + 1) (left_after row.finding left) new
+row_walked head rows answers i row left text new below is walked added = record {
+  done = walked.done ++ row_parts row left;
+  written = added (proof_with (Some head) walked.done) walked.written;
+  all = walked.all ∙ ap (λ (ps : List Part). walked.done ++ ps) (next_parts rows i row left below is) ∙ sym (append_assoc walked.done (row_parts row left) (parts_of (drop (i + 1) rows) (left_after row.finding left)));
+}
 
 -- ---- parts
 

@@ -1,8 +1,9 @@
--- What follows from the definitions: parts whose logs refute their clauses are verified, and so is their text.
+-- What follows from the definitions: a proof whose logs refute their clauses is verified, and so is its text.
 use Rattle.std.specs.Prelude.{ℕ, ◌≡◌, ◌++◌, All, List, None, length}
 use Rattle.std.specs.List.{flat_map}
 use Rattle.clause_log.specs.Refutation.{Refutes}
 use Rattle.proof_text.specs.declared.part.Part.{Part}
+use Rattle.proof_text.specs.declared.part.Proof.{Proof}
 use Rattle.proof_text.specs.Format.{IsProof}
 use Rattle.proof_files.specs.Checks.{AreChecked, counts_line, outcome_line}
 
@@ -19,11 +20,12 @@ pub record AreVerified (parts : List Part) (lines : List ℕ) (status : ℕ) : T
   pub lines_are : lines ≡ verified_lines parts
   pub status_is : status ≡ 0
 
--- a check of parts that refute says that each is verified
+-- a check of a proof whose parts refute says that each is verified
 abbrev pub ProofsAreVerified : Type 0
-ProofsAreVerified = (parts : List Part) (lines : List ℕ) (status : ℕ) → AllRefute parts → AreChecked parts lines status → AreVerified parts lines status
+ProofsAreVerified = (proof : Proof) (lines : List ℕ) (status : ℕ)
+    → AllRefute proof.parts → AreChecked proof.parts lines status → AreVerified proof.parts lines status
 
--- and so does a check of whatever parts are read of their text
+-- and so does a check of whatever proof is read of its text
 abbrev pub TextsAreVerified : Type 0
-TextsAreVerified = (text : List ℕ) (parts others : List Part) (lines : List ℕ) (status : ℕ)
-    → IsProof text parts → AllRefute parts → IsProof text others → AreChecked others lines status → AreVerified parts lines status
+TextsAreVerified = (text : List ℕ) (proof other : Proof) (lines : List ℕ) (status : ℕ)
+    → IsProof text proof → AllRefute proof.parts → IsProof text other → AreChecked other.parts lines status → AreVerified proof.parts lines status

@@ -1,5 +1,5 @@
 -- Which parts the proof file of a report has.
-use Rattle.std.specs.Prelude.{◌≡◌, ◌<◌, ◌^◌, ◌+◌, List, [], ◌∷◌, ◌++◌, drop, length, Option, Some, None, Bool, true, false, if◌then◌else◌}
+use Rattle.std.specs.Prelude.{◌<◌, ◌^◌, ◌+◌, List, [], ◌∷◌, ◌++◌, drop, length, Option, Some, None, Bool, true, false, if◌then◌else◌}
 use Rattle.clause_log.specs.declared.step.Cert.{Cert}
 use Rattle.clause_log.specs.Refutation.{Refutes}
 use Rattle.ir_tree.specs.declared.name.Name.{Name}

@@ -7,7 +7,7 @@ ghost use Rattle.clause_log.specs.Refutation.{Refutes, IsFirstBad};
 ghost use Rattle.proof_text.specs.declared.part.Part.{Part};
 ghost use Rattle.proof_files.specs.Laws.{ProofsAreVerified, TextsAreVerified};
 
-use proof_text::parts_are_one;
+use proof_text::proofs_are_one;
 
 /// A log that refutes its clauses has no first bad step: each part is said to be verified or bad, and
 /// never both.
@@ -16,15 +16,15 @@ pub fn refuted_has_no_bad_step()
         → IsFirstBad clauses log index → ⊥ }
 {}
 
-/// Parts whose logs refute are verified whole: whatever a check of them says, it has a line `verified` for
-/// each and names no bad step, and its status is 0.
+/// A proof whose logs refute is verified whole: whatever a check of its parts says, it has a line
+/// `verified` for each and names no bad step, and its status is 0.
 pub fn proofs_are_verified()
     ensures { ProofsAreVerified }
 {}
 
-/// And so is their text: whatever a check says of the parts that are read of it, it is that.
+/// And so is its text: whatever a check says of the parts of a proof that is read of it, it is that.
 pub fn texts_are_verified()
     ensures { TextsAreVerified }
 {
-    parts_are_one();
+    proofs_are_one();
 }

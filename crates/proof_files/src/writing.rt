@@ -2,8 +2,8 @@
 
 ghost use Rattle.std.specs.Prelude.{◌≡◌, ◌<◌, ◌++◌, ◌∷◌, [], All, IfOk, List, OnOk, Some, option_copied};
 ghost use Rattle.clause_lits.specs.Meaning.{AreWithin, IsClause};
-ghost use Rattle.proof_text.specs.declared.part.Part.{Part};
-ghost use Rattle.proof_text.specs.Format.{IsClauseOver, IsPart, IsPrintedName, IsProof, part_of};
+ghost use Rattle.proof_text.specs.declared.part.Proof.{Proof};
+ghost use Rattle.proof_text.specs.Format.{IsClauseOver, IsHead, IsPart, IsPrintedName, IsProof, part_of, proof_with, with_parts};
 ghost use Rattle.ir_naming.specs.Naming.{name_text as text_of_name};
 ghost use Rattle.proof_files.specs.Parts.{IsCertified, IsReadName, decided as decided_of, left_after as left_of, parts_of, row_parts};
 
@@ -11,19 +11,27 @@ use clause_log::Cert;
 use ir_naming::name_text;
 use ir_tree::Name;
 use pair_driver::Judged;
-use proof_text::{begin, push_part};
+use proof_text::{Head, begin, push_part};
 use report::{Finding, Row};
 use std::alloc::Global;
 use support::NoMemory;
 
-/// The text of a report's proof file: a part for each correct and each incorrect row, in order, with the
-/// certificate of the row's answer. A row with a verdict takes the next of the answers.
-pub fn proof_of(alloc: Global, rows: &[Row], answers: &[Judged]) -> Result<Vec<u8>, NoMemory>
+/// The text of a report's proof file: its bounds and its budget, and a part for each correct and each
+/// incorrect row, in order, with the certificate of the row's answer. A row with a verdict takes the
+/// next of the answers.
+pub fn proof_of(
+    alloc: Global,
+    head: &Head,
+    rows: &[Row],
+    answers: &[Judged],
+) -> Result<Vec<u8>, NoMemory>
+    requires head { IsHead head.now }
     requires names { All (λ row. IsReadName row.name) rows.now }
     requires certified { All IsCertified (parts_of rows.now answers.now) }
-    ensures { IfOk result (λ text. IsProof text.items (parts_of rows.now answers.now)) }
+    ensures { IfOk result (λ text. IsProof text.items
+        (proof_with (Some head.now) (parts_of rows.now answers.now))) }
 {
-    let mut text = begin(alloc)?;
+    let mut text = begin(alloc, Some(*head))?;
     let mut left = answers;
     for row in rows {
         push_row(alloc, &mut text, row, left)?;
@@ -41,8 +49,8 @@ fn push_row(
 ) -> Result<(), NoMemory>
     requires name { IsReadName row.now.name }
     requires certified { All IsCertified (row_parts row.now answers.now) }
-    ensures { OnOk result ((parts : List Part) → IsProof text.old.items parts
-        → IsProof text.new.items (parts ++ row_parts row.now answers.now)) }
+    ensures { OnOk result ((proof : Proof) → IsProof text.old.items proof
+        → IsProof text.new.items (with_parts proof (row_parts row.now answers.now))) }
 {
     let Some(is_correct) = decided(&row.finding) else {
         return Ok(());
@@ -94,8 +102,8 @@ fn push_certificate(
 ) -> Result<(), NoMemory>
     requires name { IsReadName name.now }
     requires certified { IsCertified (part_of (text_of_name name.now) is_correct cert.now) }
-    ensures { OnOk result ((parts : List Part) → IsProof text.old.items parts
-        → IsProof text.new.items (parts ++ part_of (text_of_name name.now) is_correct cert.now ∷ [])) }
+    ensures { OnOk result ((proof : Proof) → IsProof text.old.items proof
+        → IsProof text.new.items (with_parts proof (part_of (text_of_name name.now) is_correct cert.now ∷ []))) }
 {
     let printed = printed_name(alloc, name)?;
     are_clauses(cert);

@@ -14,7 +14,9 @@ pub use Rattle.clause_lits.specs.declared.lit.Lit.{Lit}
 pub use Rattle.clause_log.specs.declared.step.Step.{Step}
 pub use Rattle.ir_naming.specs.Naming.{escaped, hex_byte, hex_digit, is_bare, is_digit, is_name_byte, is_plain, quoted, name_text}
 pub use Rattle.ir_tree.specs.declared.name.Name.TheVariants.{Word}
-pub use Rattle.proof_text.specs.Following.{IsStopped, IsStuck, IsWrong, Leads, Lines, Moves, File, Clauses, Counts, Log, Rows, Steps}
-pub use Rattle.proof_text.specs.Format.{ended, IsClauseOver, IsPart, IsPrintedName, IsProof, IsSmall, IsStepOver, clause_line, counts_line, literal_text, log_line, part_lines, proof_lines, row_line, spaced, status_text, step_line, cert_lines, part_of, IsPrintedNumber}
-pub use Rattle.proof_text.specs.Words.{Parts, IsChain, chain_text}
+pub use Rattle.proof_text.specs.Following.{IsStopped, IsStuck, IsWrong, Leads, Lines, Moves, File, Clauses, Counts, Limits, Log, Rest, Rows, Steps, first_line}
+pub use Rattle.proof_text.specs.Format.{ended, IsClauseOver, IsHead, IsPart, IsPrintedName, IsProof, IsSmall, IsSpellable, IsStepOver, clause_line, counts_line, head_line, head_lines, literal_text, log_line, part_lines, proof_lines, row_line, spaced, status_text, step_line, cert_lines, part_of, proof_with, with_parts, IsPrintedNumber}
+pub use Rattle.proof_text.specs.Words.{Parts, IsChain, IsNamed, chain_text}
 pub use Rattle.proof_text.specs.declared.part.Part.{Part}
+pub use Rattle.proof_text.specs.declared.part.Head.{Head}
+pub use Rattle.proof_text.specs.declared.part.Proof.{Proof}

@@ -1,5 +1,5 @@
 -- The lines that may follow, from position to position.
-use Rattle.proof_text.proofs.Common.{ℕ, ◌≡◌, ◌<◌, ◌≤◌, ◌-◌, Bool, true, false, List, [], ◌∷◌, ◌++◌, length, map, codes, replicate, All, Contains, append_assoc, subst, sym, ap, ap₂, ◌∙◌, refl, arith, decimal, flat_map, decimal_injective, append_cancel_left, append_cancel_right, length-replicate, same_from_push, All-cons, All-head, All-nil, All-replicate, All-tail, All-weaker, Lit, Step, Part, IsClauseOver, IsPart, IsPrintedName, IsSmall, IsStepOver, clause_line, counts_line, log_line, part_lines, row_line, status_text, step_line, Clauses, Counts, File, Leads, Lines, Log, Rows, Steps, Parts}
+use Rattle.proof_text.proofs.Common.{ℕ, ◌≡◌, ◌<◌, ◌≤◌, ◌-◌, Bool, true, false, List, [], ◌∷◌, ◌++◌, length, map, codes, get_or, replicate, All, Contains, append_assoc, subst, sym, ap, ap₂, ◌∙◌, refl, arith, decimal, flat_map, decimal_injective, append_cancel_left, append_cancel_right, length-replicate, same_from_push, All-cons, All-head, All-nil, All-replicate, All-tail, All-weaker, Lit, Step, Head, Part, IsClauseOver, IsHead, IsPart, IsPrintedName, IsSmall, IsStepOver, clause_line, counts_line, head_line, head_lines, log_line, part_lines, proof_with, row_line, status_text, step_line, Clauses, Counts, File, Leads, Limits, Lines, Log, Rest, Rows, Steps, Parts, first_line, Option, Some, None, IfSome}
 use Rattle.clause_lits.specs.Meaning.{AreWithin, RisesFrom}
 use Rattle.proof_text.proofs.Numbers.{free_decimal}
 use Rattle.proof_text.proofs.Splits.{parted, same_parts}
@@ -13,7 +13,16 @@ pub some_rows : Some_lines Rows
 some_rows = ([], ([], All-nil IsPart, refl))
 
 pub some_file : Some_lines File
-some_file = (codes "tvproof 1" ∷ [], ([], All-nil IsPart, refl))
+some_file = (codes "tvproof 1" ∷ [], (proof_with None [], record { head = tt; parts = All-nil IsPart }, refl))
+
+abbrev empty_head : Head
+empty_head = record { turns = 0; blocks = 0; bytes = 0; rounds = 0; conflicts = 0; weight = 0 }
+
+empty_head_fits : IsHead empty_head
+empty_head_fits = record { turns = omega arith; blocks = omega arith; bytes = omega arith; rounds = omega arith; conflicts = omega arith; weight = omega arith }
+
+pub some_limits : Some_lines Limits
+some_limits = (head_line empty_head ∷ [], (empty_head, [], empty_head_fits, refl, ([], All-nil IsPart, refl)))
 
 abbrev empty_step : Step
 empty_step = record { chain = []; clause = [] }
@@ -226,13 +235,58 @@ done_to text After n more (x ∷ xs) rest z len e a = absurd (omega arith)
 pub many_done : {X : Type 0} (Fits : X → Type 0) (text : X → List ℕ) (After : Lines → Type 0) (n : ℕ) → n ≡ 0 → Leads (Many Fits text After n) [] After
 many_done Fits text After n z more = (λ m. done_to text After n more m.0 m.1 z m.2 m.4 m.5, λ a. ([], more, sym z, All-nil Fits, refl, a))
 
+-- ---- the head
+
+limits_to : (h : Head) (more : Lines) → Limits (head_line h ∷ more) → Rows more
+limits_to h more k =
+    let whole = k.3 in
+    let tails : more ≡ k.1 = cc in
+    subst Rows (sym tails) k.4
+
+pub limits_leads : (h : Head) → IsHead h → Leads Limits (head_line h ∷ []) Rows
+limits_leads h fit more = (limits_to h more, λ r. (h, more, fit, refl, r))
+
+pub limits_missing : (line : List ℕ) → ((h : Head) → IsHead h → line ≡ head_line h → ⊥) → (more : Lines) → Limits (line ∷ more) → ⊥
+limits_missing line none more k = let whole = k.3 in let is : line ≡ head_line k.0 = cc in none k.0 k.2 is
+
+pub limits_nil : Limits [] → ⊥
+limits_nil k = let whole = k.3 in absurd cc
+
 -- ---- the file
 
-pub file_missing : (line : List ℕ) → (line ≡ codes "tvproof 1" → ⊥) → (more : Lines) → File (line ∷ more) → ⊥
-file_missing line none more f = let whole = f.2 in let is : line ≡ codes "tvproof 1" = cc in none is
+pub formats_differ : (more others : Lines) → codes "tvproof 1" ∷ more ≡ codes "tvproof 2" ∷ others → ⊥
+formats_differ more others e = let z = ap (λ (lines : Lines). get_or (get_or lines 0 []) 8 0) e in omega arith
+
+file_to : (has_head : Bool) (more : Lines) (head : Option Head) (parts : List Part) → IfSome head IsHead → All IsPart parts → first_line has_head ∷ more ≡ head_lines head ++ flat_map part_lines parts → Rest has_head more
+file_to true more None parts fh fp e = absurd (formats_differ (flat_map part_lines parts) more (sym e))
+file_to true more (Some h) parts fh fp e = let tails : more ≡ head_line h ∷ flat_map part_lines parts = cc in (h, flat_map part_lines parts, fh, tails, (parts, fp, refl))
+file_to false more None parts fh fp e = let tails : more ≡ flat_map part_lines parts = cc in (parts, fp, tails)
+file_to false more (Some h) parts fh fp e = absurd (formats_differ more (head_line h ∷ flat_map part_lines parts) e)
+
+file_from : (has_head : Bool) (more : Lines) → Rest has_head more → File (first_line has_head ∷ more)
+file_from true more k = (
+  proof_with (Some k.0) k.4.0,
+  record { head = k.2; parts = k.4.1 },
+  ap (λ (t : Lines). codes "tvproof 2" ∷ t) (k.3 ∙ ap (λ (t : Lines). head_line k.0 ∷ t) k.4.2),
+)
+file_from false more r = (proof_with None r.0, record { head = tt; parts = r.1 }, ap (λ (t : Lines). codes "tvproof 1" ∷ t) r.2)
+
+pub file_leads : (has_head : Bool) → Leads File (first_line has_head ∷ []) (Rest has_head)
+file_leads has_head more = (λ f. file_to has_head more f.0.head f.0.parts f.1.head f.1.parts f.2, file_from has_head more)
+
+other_line : (line : List ℕ) (more : Lines) (head : Option Head) (parts : List Part) → (line ≡ codes "tvproof 1" → ⊥) → (line ≡ codes "tvproof 2" → ⊥) → line ∷ more ≡ head_lines head ++ flat_map part_lines parts → ⊥
+other_line line more None parts plain headed e = let is : line ≡ codes "tvproof 1" = cc in plain is
+other_line line more (Some h) parts plain headed e = let is : line ≡ codes "tvproof 2" = cc in headed is
+
+pub file_missing : (line : List ℕ) → (line ≡ codes "tvproof 1" → ⊥) → (line ≡ codes "tvproof 2" → ⊥) → (more : Lines) → File (line ∷ more) → ⊥
+file_missing line plain headed more f = other_line line more f.0.head f.0.parts plain headed f.2
+
+no_line : (head : Option Head) (parts : List Part) → [] ≡ head_lines head ++ flat_map part_lines parts → ⊥
+no_line None parts e = absurd cc
+no_line (Some h) parts e = absurd cc
 
 pub file_nil : File [] → ⊥
-file_nil f = let whole = f.2 in absurd cc
+file_nil f = no_line f.0.head f.0.parts f.2
 
 -- ---- what is in a line
 

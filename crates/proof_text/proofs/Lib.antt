@@ -3,6 +3,7 @@ pub mod Numbers
 pub mod Splits
 pub mod Clauses
 pub mod Chains
+pub mod Heads
 pub mod Languages
 pub mod Moves
 pub mod Escapes

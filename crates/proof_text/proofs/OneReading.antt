@@ -1,9 +1,10 @@
--- A text has one list of parts, but for their `front`.
-use Rattle.proof_text.proofs.Common.{ℕ, ◌≡◌, List, [], ◌∷◌, ◌++◌, length, map, codes, All, sym, ap₂, ◌∙◌, refl, arith, flat_map, append_cancel_left, All-head, All-tail, Lit, Step, Part, Lines, IsClauseOver, IsPart, IsSmall, IsStepOver, clause_line, counts_line, log_line, part_lines, proof_lines, row_line, status_text, step_line}
-use Rattle.proof_text.specs.OneReading.{AreSameButFronts, IsSameButFront, PartsAreOne}
+-- A text has one head, and one list of parts but for their `front`.
+use Rattle.proof_text.proofs.Common.{ℕ, ◌≡◌, List, [], ◌∷◌, ◌++◌, length, map, codes, All, sym, ap, ap₂, ◌∙◌, refl, arith, flat_map, append_cancel_left, All-head, All-tail, Option, Some, None, IfSome, Lit, Step, Head, Part, Lines, IsClauseOver, IsHead, IsPart, IsSmall, IsStepOver, clause_line, counts_line, head_line, head_lines, log_line, part_lines, proof_lines, row_line, status_text, step_line}
+use Rattle.proof_text.specs.OneReading.{AreSameButFronts, IsSameButFront, ProofsAreOne}
 use Rattle.proof_text.proofs.Chains.{same_chain}
 use Rattle.proof_text.proofs.Clauses.{same_clause}
-use Rattle.proof_text.proofs.Languages.{part_first, same_counts, same_log, same_status, same_verdict}
+use Rattle.proof_text.proofs.Heads.{same_head}
+use Rattle.proof_text.proofs.Languages.{formats_differ, part_first, same_counts, same_log, same_status, same_verdict}
 use Rattle.proof_text.proofs.Top.{free_proof, same_lines}
 
 abbrev step : List ℕ → List Lit → Step
@@ -63,8 +64,18 @@ same_all (p ∷ ps) (q ∷ qs) fp fq e =
     let first = same_first p q ps qs (All-head IsPart p ps fp) (All-head IsPart q qs fq) e in
     (first.0, same_all ps qs (All-tail IsPart p ps fp) (All-tail IsPart q qs fq) first.1)
 
-pub parts_are_one : PartsAreOne
-parts_are_one text parts others p q =
-    let lines = same_lines (proof_lines parts) (proof_lines others) (free_proof parts p.fit) (free_proof others q.fit) (sym p.is ∙ q.is) in
-    let tails : flat_map part_lines parts ≡ flat_map part_lines others = cc in
-    same_all parts others p.fit q.fit tails
+-- the head is determined, and what follows it
+same_start : (g h : Option Head) (x y : Lines) → IfSome g IsHead → IfSome h IsHead → head_lines g ++ x ≡ head_lines h ++ y → (g ≡ h) × (x ≡ y)
+same_start None None x y fg fh e = (refl, cc)
+same_start None (Some h) x y fg fh e = absurd (formats_differ x (head_line h ∷ y) e)
+same_start (Some g) None x y fg fh e = absurd (formats_differ y (head_line g ∷ x) (sym e))
+same_start (Some g) (Some h) x y fg fh e =
+    let lines : head_line g ≡ head_line h = cc in
+    let tails : x ≡ y = cc in
+    (ap Some (same_head g h fg fh lines), tails)
+
+pub proofs_are_one : ProofsAreOne
+proofs_are_one text proof other p q =
+    let lines = same_lines (proof_lines proof) (proof_lines other) (free_proof proof p.fit) (free_proof other q.fit) (sym p.is ∙ q.is) in
+    let start = same_start proof.head other.head (flat_map part_lines proof.parts) (flat_map part_lines other.parts) p.fit.head q.fit.head lines in
+    record { head = start.0; parts = same_all proof.parts other.parts p.fit.parts q.fit.parts start.1 }

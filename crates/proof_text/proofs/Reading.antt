@@ -1,5 +1,5 @@
 -- Reading a part, and the parts one after another.
-use Rattle.proof_text.proofs.Common.{ℕ, ◌≡◌, ◌<◌, List, [], ◌∷◌, ◌++◌, length, map, codes, All, append-nil, subst, sym, ap, ◌∙◌, flat_map, flat_map-append, Lit, Part, IsClauseOver, IsPart, IsPrintedName, IsSmall, IsStepOver, clause_line, counts_line, log_line, part_lines, proof_lines, row_line, step_line, Clauses, Counts, File, Lines, Log, Moves, Rows, Steps}
+use Rattle.proof_text.proofs.Common.{ℕ, ◌≡◌, List, [], ◌∷◌, ◌++◌, length, map, All, append_assoc, append-nil, subst, sym, ap, ◌∙◌, flat_map, flat_map-append, Option, Lit, Head, Part, IsClauseOver, IsPart, IsPrintedName, IsSmall, IsStepOver, clause_line, counts_line, head_lines, log_line, part_lines, proof_lines, proof_with, row_line, step_line, Clauses, Counts, File, Lines, Log, Moves, Rows, Steps}
 use Rattle.proof_text.proofs.Moves.{moves_then}
 
 pub part_fits : (p : Part) (v n k : ℕ) (cs : List (List Lit)) → p.cert.cnf.variables ≡ v → p.cert.cnf.clauses ≡ cs → IsPrintedName p.name → IsSmall v → IsSmall n → IsSmall k → length cs ≡ n → length p.cert.log ≡ k → All (IsClauseOver v) cs → All (IsStepOver v) p.cert.log → IsPart p
@@ -32,7 +32,8 @@ part_moves p v n k cs old l1 l2 l3 l4 new ev ec en ek m1 m2 m3 m4 m5 =
     (subst (λ m. Moves Rows old (tail v cs m (length p.cert.log)) Rows new) (sym en)
     (subst (λ j. Moves Rows old (tail v cs n j) Rows new) (sym ek) whole)))
 
-pub parts_push : (text mid new : List ℕ) (ps : List Part) (p : Part) → Moves File text (proof_lines ps) Rows mid → Moves Rows mid (part_lines p) Rows new → Moves File text (proof_lines (ps ++ p ∷ [])) Rows new
-parts_push text mid new ps p m n =
+pub parts_push : (text mid new : List ℕ) (head : Option Head) (ps : List Part) (p : Part) → Moves File text (proof_lines (proof_with head ps)) Rows mid → Moves Rows mid (part_lines p) Rows new → Moves File text (proof_lines (proof_with head (ps ++ p ∷ []))) Rows new
+parts_push text mid new head ps p m n =
     let more : flat_map part_lines ps ++ part_lines p ≡ flat_map part_lines (ps ++ p ∷ []) = ap (λ (t : Lines). flat_map part_lines ps ++ t) (sym (append-nil (part_lines p))) ∙ sym (flat_map-append part_lines ps (p ∷ [])) in
-    subst (λ (t : Lines). Moves File text (codes "tvproof 1" ∷ t) Rows new) more (moves_then File Rows Rows text mid new (proof_lines ps) (part_lines p) m n)
+    let whole = append_assoc (head_lines head) (flat_map part_lines ps) (part_lines p) ∙ ap (λ (t : Lines). head_lines head ++ t) more in
+    subst (λ (t : Lines). Moves File text t Rows new) whole (moves_then File Rows Rows text mid new (proof_lines (proof_with head ps)) (part_lines p) m n)

@@ -1,7 +1,8 @@
 -- From the lines of a file to its text.
-use Rattle.proof_text.proofs.Common.{ℕ, ◌≡◌, ◌≢◌, ◌⊎◌, ◌<◌, ◌≤◌, ◌+◌, ◌-◌, ◌==◌, ◌/◌, ◌%◌, ◌&&◌, ◌||◌, Bool, true, false, cond, not, eqb, List, [], ◌∷◌, ◌++◌, length, map, take, codes, All, Contains, count_by, ne_eqb, sum_by, append_assoc, append-nil, length-append, take_at, subst, sym, ap, ap₂, ◌∙◌, refl, inl, inr, ⊎_elim, arith, decimal, flat_map, list_all, list_any, nat_tests, All-append, All-cons, All-contains, All-head, All-map, All-nil, All-tail, All-weaker, Contains-append_cases, Contains-append_right, Lit, Step, escaped, hex_byte, hex_digit, is_bare, is_digit, is_name_byte, is_plain, quoted, Part, IsClauseOver, IsPart, IsPrintedName, IsProof, IsSmall, IsStepOver, clause_line, counts_line, ended, literal_text, log_line, part_lines, proof_lines, row_line, spaced, status_text, step_line, File, IsStuck, IsWrong, Lines, and_parts}
+use Rattle.proof_text.proofs.Common.{ℕ, ◌≡◌, ◌≢◌, ◌⊎◌, ◌<◌, ◌^◌, Option, Some, None, IfSome, ◌≤◌, ◌+◌, ◌-◌, ◌==◌, ◌/◌, ◌%◌, ◌||◌, Bool, true, false, cond, not, eqb, List, [], ◌∷◌, ◌++◌, length, map, take, codes, All, Contains, count_by, ne_eqb, sum_by, append_assoc, append-nil, length-append, take_at, subst, sym, ap, ap₂, ◌∙◌, refl, inl, inr, ⊎_elim, arith, decimal, flat_map, list_all, list_any, nat_tests, All-append, All-cons, All-contains, All-head, All-map, All-nil, All-tail, All-weaker, Contains-append_cases, Contains-append_right, Lit, Step, escaped, hex_byte, hex_digit, is_bare, is_digit, is_name_byte, is_plain, quoted, Head, Part, Proof, IsClauseOver, IsHead, IsPart, IsPrintedName, IsProof, IsSmall, IsSpellable, IsStepOver, clause_line, counts_line, ended, head_line, head_lines, literal_text, log_line, part_lines, proof_lines, row_line, spaced, status_text, step_line, File, IsStuck, IsWrong, Lines, and_parts}
 use Rattle.std.proofs.lemmas.List.Sums.{sum_by-append, sum_by-cons}
 use Rattle.proof_text.specs.FirstFault.{Begin, IsCutShort, IsFirstFault, IsWrongLine}
+use Rattle.proof_text.proofs.Heads.{from_blocks, from_bytes, from_conflicts, from_rounds, from_weight, head_regroup}
 use Rattle.proof_text.proofs.Numbers.{free_decimal}
 use Rattle.proof_text.proofs.Splits.{contains_it, first_or_later, here, parted}
 
@@ -64,6 +65,19 @@ free_counts v n hv hn = free_append ((codes "p cnf " ++ decimal v) ++ codes " ")
 
 free_log : (n : ℕ) → IsSmall n → Free (log_line n)
 free_log n h = free_append (codes "log ") (decimal n) (free_known (codes "log ") refl) (free_number n h)
+
+free_named : (name : List ℕ) (n : ℕ) (rest : List ℕ) → list_any (λ b. eqb b 10) name ≡ false → n < 2 ^ 63 → Free rest → Free (name ++ (decimal n ++ 32 ∷ rest))
+free_named name n rest h small f = free_append name (decimal n ++ 32 ∷ rest) (free_known name h)
+    (free_append (decimal n) (32 ∷ rest) (λ i. free_decimal n 10 (omega arith) (omega arith) i) (free_cons 32 rest (λ z. absurd (omega arith)) f))
+
+free_head : (h : Head) → IsHead h → Free (head_line h)
+free_head h f =
+    let weight : Free (from_weight h) = free_append (codes "weight ") (decimal h.weight) (free_known (codes "weight ") refl) (λ i. free_decimal h.weight 10 (let small = f.weight in omega arith) (omega arith) i) in
+    let conflicts : Free (from_conflicts h) = free_named (codes "conflicts ") h.conflicts (from_weight h) refl f.conflicts weight in
+    let rounds : Free (from_rounds h) = free_named (codes "rounds ") h.rounds (from_conflicts h) refl f.rounds conflicts in
+    let bytes : Free (from_bytes h) = free_named (codes "bytes ") h.bytes (from_rounds h) refl f.bytes rounds in
+    let blocks : Free (from_blocks h) = free_named (codes "blocks ") h.blocks (from_bytes h) refl f.blocks bytes in
+    subst Free (sym (head_regroup h)) (free_named (codes "turns ") h.turns (from_blocks h) refl f.turns blocks)
 
 -- ---- names
 
@@ -135,8 +149,12 @@ free_parts : (ps : List Part) → All IsPart ps → AreFree (flat_map part_lines
 free_parts [] f = All-nil Free
 free_parts (p ∷ ps) f = All-append Free (part_lines p) (flat_map part_lines ps) (free_part p (All-head IsPart p ps f)) (free_parts ps (All-tail IsPart p ps f))
 
-pub free_proof : (ps : List Part) → All IsPart ps → AreFree (proof_lines ps)
-free_proof ps f = All-cons Free (codes "tvproof 1") (flat_map part_lines ps) (free_known (codes "tvproof 1") refl) (free_parts ps f)
+free_start : (head : Option Head) → IfSome head IsHead → AreFree (head_lines head)
+free_start None f = All-cons Free (codes "tvproof 1") [] (free_known (codes "tvproof 1") refl) (All-nil Free)
+free_start (Some h) f = All-cons Free (codes "tvproof 2") (head_line h ∷ []) (free_known (codes "tvproof 2") refl) (All-cons Free (head_line h) [] (free_head h f) (All-nil Free))
+
+pub free_proof : (proof : Proof) → IsSpellable proof → AreFree (proof_lines proof)
+free_proof proof f = All-append Free (head_lines proof.head) (flat_map part_lines proof.parts) (free_start proof.head f.head) (free_parts proof.parts f.parts)
 
 pub free_file : (lines : Lines) → File lines → AreFree lines
 free_file lines f = subst AreFree (sym f.2) (free_proof f.0 f.1)
@@ -182,14 +200,14 @@ wrong_rest taken (l ∷ more) rest fm e w f = ⊎_elim
     (λ h. h.0 (contains_it 10 rest l (ended more) (e ∙ append_assoc l (10 ∷ []) (ended more))))
     w
 
--- no parts have a text at which reading is stuck
-pub no_proof : (text rest : List ℕ) → IsStuck File text rest → (parts : List Part) → IsProof text parts → ⊥
-no_proof text rest k parts p =
-    let free = free_proof parts p.fit in
+-- no proof has a text at which reading is stuck
+pub no_proof : (text rest : List ℕ) → IsStuck File text rest → (proof : Proof) → IsProof text proof → ⊥
+no_proof text rest k proof p =
+    let free = free_proof proof p.fit in
     let taken_free = first_free k.taken k.begin.0 (free_file (k.taken ++ k.begin.0) k.begin.1) in
-    let apart = parted_lines (proof_lines parts) k.taken rest free taken_free (sym p.is ∙ k.is) in
+    let apart = parted_lines (proof_lines proof) k.taken rest free taken_free (sym p.is ∙ k.is) in
     let more_free = rest_free k.taken apart.0 (subst AreFree apart.1 free) in
-    wrong_rest k.taken apart.0 rest more_free apart.2 k.wrong (parts, p.fit, sym apart.1)
+    wrong_rest k.taken apart.0 rest more_free apart.2 k.wrong (proof, p.fit, sym apart.1)
   where
     rest_free : (s t : Lines) → AreFree (s ++ t) → AreFree t
     rest_free [] t f = f
@@ -201,7 +219,7 @@ begins taken b = (b.1.0, b.0, b.1.1, sym b.1.2)
 fault_of : (taken : Lines) (rest : List ℕ) → IsWrong File taken rest → IsWrongLine taken rest ⊎ IsCutShort taken rest
 fault_of taken rest w = ⊎_elim
     (λ h. inl (h.0, h.1, h.2.free, h.2.is, λ b. h.3 b.1 (b.0, b.2, sym (append_assoc taken (h.0 ∷ []) b.1) ∙ sym b.3)))
-    (λ h. inr (h.0, ⊎_elim inl (λ n. inr (λ parts f e. n (parts, f, sym e))) h.1))
+    (λ h. inr (h.0, ⊎_elim inl (λ n. inr (λ proof f e. n (proof, f, sym e))) h.1))
     w
 
 -- ---- the number of a line

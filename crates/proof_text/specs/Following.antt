@@ -1,13 +1,15 @@
 -- The lines that may follow at the position of a reader of a proof file.
-use Rattle.std.specs.Prelude.{ℕ, ◌≡◌, ◌≢◌, ◌⊎◌, ◌↔◌, Bool, All, Contains, List, [], ◌∷◌, ◌++◌, length, map, Option, Some, None}
+use Rattle.std.specs.Prelude.{ℕ, ◌≡◌, ◌≢◌, ◌⊎◌, ◌↔◌, Bool, true, false, cond, codes, All, Contains, List, [], ◌∷◌, ◌++◌, length, map, Option, Some, None}
 use Rattle.std.specs.List.{flat_map}
 use Rattle.clause_lits.specs.declared.lit.Lit.{Lit}
 use Rattle.clause_log.specs.declared.step.Step.{Step}
+use Rattle.proof_text.specs.declared.part.Head.{Head}
 use Rattle.proof_text.specs.declared.part.Part.{Part}
+use Rattle.proof_text.specs.declared.part.Proof.{Proof}
 use Rattle.proof_text.specs.declared.part.Stop.{Stop}
 use Rattle.proof_text.specs.declared.part.Stop.TheVariants.{NoMemory, At}
 use Rattle.proof_text.specs.declared.reader.Row.{Row}
-use Rattle.proof_text.specs.Format.{IsClauseOver, IsPart, IsPrintedName, IsSmall, IsStepOver, clause_line, counts_line, ended, log_line, part_lines, proof_lines, row_line, step_line}
+use Rattle.proof_text.specs.Format.{IsClauseOver, IsHead, IsPart, IsPrintedName, IsSmall, IsSpellable, IsStepOver, clause_line, counts_line, ended, head_line, log_line, part_lines, proof_lines, row_line, step_line}
 use Rattle.proof_text.specs.Words.{Parts}
 
 abbrev pub Lines : Type 0
@@ -33,9 +35,21 @@ Clauses variables n lines = (cs : List (List Lit)) × (rest : Lines) × (length 
 abbrev pub Counts : Lines → Type 0
 Counts lines = (variables : ℕ) × (n : ℕ) × (rest : Lines) × IsSmall variables × IsSmall n × (lines ≡ counts_line variables n ∷ rest) × Clauses variables n rest
 
+-- a head, and parts
+abbrev pub Limits : Lines → Type 0
+Limits lines = (h : Head) × (rest : Lines) × IsHead h × (lines ≡ head_line h ∷ rest) × Rows rest
+
+-- the number of a format, and what follows it
+abbrev pub first_line : Bool → List ℕ
+first_line has_head = cond has_head (codes "tvproof 2") (codes "tvproof 1")
+
+abbrev pub Rest : Bool → Lines → Type 0
+Rest true lines = Limits lines
+Rest false lines = Rows lines
+
 -- a whole file
 abbrev pub File : Lines → Type 0
-File lines = (parts : List Part) × All IsPart parts × (lines ≡ proof_lines parts)
+File lines = (proof : Proof) × IsSpellable proof × (lines ≡ proof_lines proof)
 
 -- ---- reading
 

@@ -1,5 +1,6 @@
--- The text of a proof file: for each part its clauses, as in the DIMACS CNF format, and the steps of a log.
-use Rattle.std.specs.Prelude.{ℕ, ◌≡◌, ◌<◌, ◌≤◌, ◌^◌, ◌⊎◌, Bool, true, cond, All, List, [], ◌∷◌, ◌++◌, length, map, codes, slice_get, Some}
+-- The text of a proof file: in format 2 the bounds and the budget of a report, and in both formats for each part its
+-- clauses, as in the DIMACS CNF format, and the steps of a log.
+use Rattle.std.specs.Prelude.{ℕ, ◌≡◌, ◌<◌, ◌≤◌, ◌^◌, ◌⊎◌, Bool, true, cond, All, List, [], ◌∷◌, ◌++◌, length, map, codes, slice_get, Option, Some, None, IfSome}
 use Rattle.std.specs.Fmt.{decimal}
 use Rattle.std.specs.List.{flat_map}
 use Rattle.clause_lits.specs.declared.lit.Lit.{Lit}
@@ -8,7 +9,9 @@ use Rattle.clause_log.specs.declared.step.Cert.{Cert}
 use Rattle.clause_log.specs.declared.step.Step.{Step}
 use Rattle.ir_tree.specs.declared.name.Name.TheVariants.{Word}
 use Rattle.ir_naming.specs.Naming.{is_digit, name_text}
+use Rattle.proof_text.specs.declared.part.Head.{Head}
 use Rattle.proof_text.specs.declared.part.Part.{Part}
+use Rattle.proof_text.specs.declared.part.Proof.{Proof}
 
 -- ---- lines
 
@@ -39,6 +42,16 @@ counts_line variables clauses = codes "p cnf " ++ decimal variables ++ codes " "
 abbrev pub log_line : ℕ → List ℕ
 log_line steps = codes "log " ++ decimal steps
 
+-- each number of a head after its name
+abbrev pub head_line : Head → List ℕ
+head_line h = codes "turns " ++ decimal h.turns ++ codes " blocks " ++ decimal h.blocks ++ codes " bytes " ++ decimal h.bytes
+    ++ codes " rounds " ++ decimal h.rounds ++ codes " conflicts " ++ decimal h.conflicts ++ codes " weight " ++ decimal h.weight
+
+-- the lines before the first part: the number of the format, and in format 2 the head
+abbrev pub head_lines : Option Head → List (List ℕ)
+head_lines None = codes "tvproof 1" ∷ []
+head_lines (Some h) = codes "tvproof 2" ∷ head_line h ∷ []
+
 -- ---- parts
 
 -- the part of a row of this name
@@ -54,15 +67,22 @@ cert_lines cert = counts_line cert.cnf.variables (length cert.cnf.clauses)
 abbrev pub part_lines : Part → List (List ℕ)
 part_lines p = row_line p.name p.is_correct ∷ cert_lines p.cert
 
-abbrev pub proof_lines : List Part → List (List ℕ)
-proof_lines parts = codes "tvproof 1" ∷ flat_map part_lines parts
+abbrev pub proof_with : Option Head → List Part → Proof
+proof_with head parts = record { head = head; parts = parts }
+
+-- a proof and more parts
+abbrev pub with_parts : Proof → List Part → Proof
+with_parts proof more = proof_with proof.head (proof.parts ++ more)
+
+abbrev pub proof_lines : Proof → List (List ℕ)
+proof_lines proof = head_lines proof.head ++ flat_map part_lines proof.parts
 
 -- each line ends with a newline
 abbrev pub ended : List (List ℕ) → List ℕ
 ended lines = flat_map (λ line. line ++ 10 ∷ []) lines
 
-abbrev pub proof_text : List Part → List ℕ
-proof_text parts = ended (proof_lines parts)
+abbrev pub proof_text : Proof → List ℕ
+proof_text proof = ended (proof_lines proof)
 
 -- ---- what has a text
 
@@ -99,7 +119,20 @@ pub record IsPart (p : Part) : Type 0 where
   pub clauses : All (IsClauseOver p.cert.cnf.variables) p.cert.cnf.clauses
   pub steps : All (IsStepOver p.cert.cnf.variables) p.cert.log
 
--- the text is that of these parts
-pub record IsProof (text : List ℕ) (parts : List Part) : Type 0 where
-  pub fit : All IsPart parts
-  pub is : text ≡ proof_text parts
+pub record IsHead (h : Head) : Type 0 where
+  pub turns : h.turns < 2 ^ 63
+  pub blocks : h.blocks < 2 ^ 63
+  pub bytes : h.bytes < 2 ^ 63
+  pub rounds : h.rounds < 2 ^ 63
+  pub conflicts : h.conflicts < 2 ^ 63
+  pub weight : h.weight < 2 ^ 63
+
+-- the head, where there is one, and all parts can be written
+pub record IsSpellable (proof : Proof) : Type 0 where
+  pub head : IfSome proof.head IsHead
+  pub parts : All IsPart proof.parts
+
+-- the text is that of this proof
+pub record IsProof (text : List ℕ) (proof : Proof) : Type 0 where
+  pub fit : IsSpellable proof
+  pub is : text ≡ proof_text proof

@@ -1,7 +1,8 @@
--- What a text says of its parts: all except the `front` of their clauses.
+-- What a text says of its proof: all except the `front` of the clauses.
 use Rattle.std.specs.Prelude.{ℕ, ◌≡◌, List}
 use Rattle.std.specs.List.{AllZip}
 use Rattle.proof_text.specs.declared.part.Part.{Part}
+use Rattle.proof_text.specs.declared.part.Proof.{Proof}
 use Rattle.proof_text.specs.Format.{IsProof}
 
 -- one part is the other, except for `front`, which no text contains
@@ -16,6 +17,12 @@ pub record IsSameButFront (p q : Part) : Type 0 where
 abbrev pub AreSameButFronts : List Part → List Part → Type 0
 AreSameButFronts parts others = AllZip IsSameButFront parts others
 
--- a text has at most one list of parts, except for `front`
-abbrev pub PartsAreOne : Type 0
-PartsAreOne = (text : List ℕ) (parts others : List Part) → IsProof text parts → IsProof text others → AreSameButFronts parts others
+-- the same head, and the same parts except for `front`
+pub record IsSameProof (proof other : Proof) : Type 0 where
+  pub head : proof.head ≡ other.head
+  pub parts : AreSameButFronts proof.parts other.parts
+
+-- a text has at most one head, and one list of parts except for `front`
+abbrev pub ProofsAreOne : Type 0
+ProofsAreOne = (text : List ℕ) (proof other : Proof)
+    → IsProof text proof → IsProof text other → IsSameProof proof other

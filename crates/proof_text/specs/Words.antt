@@ -1,5 +1,5 @@
--- Words of a line: what reads as a number, a literal, a clause or a chain.
-use Rattle.std.specs.Prelude.{ℕ, ◌≡◌, ◌<◌, All, Contains, List, ◌∷◌, ◌++◌, Option, Some, None, codes}
+-- Words of a line: what reads as a number, a literal, a clause or a chain, and as a number after its name.
+use Rattle.std.specs.Prelude.{ℕ, ◌≡◌, ◌<◌, ◌^◌, All, Contains, List, ◌∷◌, ◌++◌, Option, Some, None, codes}
 use Rattle.std.specs.Fmt.{decimal}
 use Rattle.std.specs.List.{flat_map}
 use Rattle.proof_text.specs.Format.{IsSmall, spaced}
@@ -13,6 +13,11 @@ pub record Parts (byte : ℕ) (text before after : List ℕ) : Type 0 where
 abbrev pub IsRead : {A : Type 0} → (A → Type 0) → (A → List ℕ) → List ℕ → Option A → Type 0
 IsRead Fits text_of text (Some a) = Fits a × (text ≡ text_of a)
 IsRead {A} Fits text_of text None = (a : A) → Fits a → text ≡ text_of a → ⊥
+
+-- the line begins with a name, the number after it and a space, and goes on with this rest
+pub record IsNamed (name line : List ℕ) (n : ℕ) (rest : List ℕ) : Type 0 where
+  pub small : n < 2 ^ 63
+  pub is : line ≡ name ++ (spaced (decimal n) ++ rest)
 
 -- the text of a chain, up to the 0
 abbrev pub chain_text : List ℕ → List ℕ

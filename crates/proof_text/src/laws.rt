@@ -1,9 +1,9 @@
-//! What a text says of its parts.
+//! What a text says of its proof.
 
-ghost use Rattle.proof_text.specs.OneReading.{PartsAreOne};
+ghost use Rattle.proof_text.specs.OneReading.{ProofsAreOne};
 
-/// Two lists of parts with the same text agree: they have the same number of parts, and in each the
-/// same name, verdict, clauses, number of variables and log. Only `front` is not in the text.
-pub fn parts_are_one()
-    ensures { PartsAreOne }
+/// Two proofs with the same text agree: they have the same head or none, the same number of parts, and
+/// in each the same name, verdict, clauses, number of variables and log. Only `front` is not in the text.
+pub fn proofs_are_one()
+    ensures { ProofsAreOne }
 {}

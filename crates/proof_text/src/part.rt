@@ -16,6 +16,25 @@ pub struct Part {
     pub cert: Cert,
 }
 
+/// What a report was made with, as its first line says: the bounds `turns`, `blocks` and `bytes`, and
+/// the budget of a pair, `rounds`, `conflicts` and `weight`. A text has only numbers below 2^63.
+#[derive(Clone, Copy, Debug, PartialEq, Eq)]
+pub struct Head {
+    pub turns: u64,
+    pub blocks: u64,
+    pub bytes: u64,
+    pub rounds: u64,
+    pub conflicts: u64,
+    pub weight: u64,
+}
+
+/// What a proof file has: in format 2 a head, in format 1 none, and in both a part for each row.
+#[derive(Drop)]
+pub struct Proof {
+    pub head: Option<Head>,
+    pub parts: Sequence<Part>,
+}
+
 /// Why a text is rejected.
 #[derive(Clone, Copy, Debug, PartialEq, Eq, Error)]
 pub enum ProofFault {

@@ -1,17 +1,17 @@
-//! From a text to the parts of a proof file.
+//! From a text to the proof that it has.
 
 ghost use Rattle.std.specs.Prelude.{◌≡◌, ◌==◌, ◌<◌, ◌≤◌, ◌-◌, ◌++◌, ◌∷◌, [], ◌+◌, ℕ, All, Bool, IfErr, IfNone, IfOk, IfSome, List, OnOk, codes, count_by, length, map, take};
-ghost use Rattle.proof_text.specs.Format.{IsClauseOver, IsPart, IsPrintedName, IsProof, IsSmall, IsStepOver, clause_line, counts_line, log_line, part_lines, row_line, status_text, step_line};
-ghost use Rattle.proof_text.specs.declared.part.Part.{Part};
+ghost use Rattle.proof_text.specs.Format.{IsClauseOver, IsHead, IsPart, IsPrintedName, IsProof, IsSmall, IsStepOver, clause_line, counts_line, head_line, head_lines, log_line, part_lines, row_line, status_text, step_line};
+ghost use Rattle.proof_text.specs.declared.part.Proof.{Proof};
 ghost use Rattle.proof_text.specs.FirstFault.{IsFaultOf};
-ghost use Rattle.proof_text.specs.OneReading.{AreSameButFronts};
+ghost use Rattle.proof_text.specs.OneReading.{IsSameProof};
 ghost use Rattle.proof_text.specs.Following as follow;
 ghost use Rattle.proof_text.specs.Following.{IsStopped, Moves};
 
 use crate::cursor::Lines;
 use crate::names::is_printed_name;
-use crate::part::{Part, ProofFault, Stop};
-use crate::words::{Counts, clause_in, counts_in, log_in, step_in};
+use crate::part::{Head, Part, Proof, ProofFault, Stop};
+use crate::words::{Counts, clause_in, counts_in, head_in, log_in, step_in};
 use clause_lits::{Clause, Cnf};
 use clause_log::{Cert, Log, Step};
 use std::alloc::Global;
@@ -183,9 +183,9 @@ fn read_part(alloc: Global, lines: &mut Lines) -> Result<Part, Stop>
     })
 }
 
-/// Reads the first line.
-fn read_header(lines: &mut Lines) -> Result<(), Stop>
-    ensures ok { OnOk result (Moves follow.File lines.old (codes "tvproof 1" ∷ []) follow.Rows lines.new) }
+/// Reads the first line, and answers whether a head follows: whether the format is 2.
+fn read_format(lines: &mut Lines) -> Result<bool, Stop>
+    ensures ok { IfOk result (λ has_head. Moves follow.File lines.old (follow.first_line has_head ∷ []) (follow.Rest has_head) lines.new) }
     ensures err { IfErr result (IsStopped follow.File lines.old) }
 {
     let stop = Stop::At { left: lines.left() };
@@ -193,39 +193,69 @@ fn read_header(lines: &mut Lines) -> Result<(), Stop>
         return Err(stop);
     };
     if line == b"tvproof 1".as_slice() {
-        Ok(())
+        Ok(false)
+    } else if line == b"tvproof 2".as_slice() {
+        Ok(true)
     } else {
         Err(stop)
     }
 }
 
-/// Reads all parts of a text.
-fn read_parts(alloc: Global, text: &[u8]) -> Result<Sequence<Part>, Stop>
-    ensures ok { IfOk result (λ parts. IsProof text.now parts × All (λ p. p.cert.cnf.front ≡ 0) parts) }
+/// Reads the line of a head.
+fn read_head(lines: &mut Lines) -> Result<Head, Stop>
+    ensures ok { IfOk result (λ h. IsHead h × Moves follow.Limits lines.old (head_line h ∷ []) follow.Rows lines.new) }
+    ensures err { IfErr result (IsStopped follow.Limits lines.old) }
+{
+    let stop = Stop::At { left: lines.left() };
+    let Some(line) = lines.next() else {
+        return Err(stop);
+    };
+    match head_in(line) {
+        Some(head) => Ok(head),
+        None => Err(stop),
+    }
+}
+
+/// Reads the lines before the first part.
+fn read_header(lines: &mut Lines) -> Result<Option<Head>, Stop>
+    ensures ok { IfOk result (λ head. IfSome head IsHead × Moves follow.File lines.old (head_lines head) follow.Rows lines.new) }
+    ensures err { IfErr result (IsStopped follow.File lines.old) }
+{
+    if read_format(lines)? {
+        Ok(Some(read_head(lines)?))
+    } else {
+        Ok(None)
+    }
+}
+
+/// Reads a whole text.
+fn read_proof(alloc: Global, text: &[u8]) -> Result<Proof, Stop>
+    ensures ok { IfOk result (λ proof. IsProof text.now proof × All (λ p. p.cert.cnf.front ≡ 0) proof.parts) }
     ensures err { IfErr result (IsStopped follow.File text.now) }
 {
     let mut lines = Lines::new(text);
-    read_header(&mut lines)?;
+    let head = read_header(&mut lines)?;
     let mut parts = Sequence::from_vec(Vec::new(alloc));
     while lines.left() > 0 {
         parts.push(read_part(alloc, &mut lines)?)?;
     }
-    Ok(parts)
+    Ok(Proof { head, parts })
 }
 
-/// The parts of a proof file, with `front` 0 in their clauses, or the first line, counted from 1,
-/// that no proof file has there; where text is missing, the line at which it ends.
-pub fn parse(alloc: Global, text: &[u8]) -> Result<Sequence<Part>, ProofFault>
-    // The text is that of these parts.
-    ensures parts { IfOk result (IsProof text.now) }
-    ensures fronts { IfOk result (All (λ p. p.cert.cnf.front ≡ 0)) }
-    // They are the parts that it was written of, except `front`.
-    ensures written { (parts : List Part) → IsProof text.now parts → IfOk result (AreSameButFronts parts) }
-    // It is not the text of any parts, and this is the first line that shows it.
+/// The head and the parts of a proof file of either format, with `front` 0 in their clauses, or the
+/// first line, counted from 1, that no proof file has there; where text is missing, the line at which
+/// it ends.
+pub fn parse(alloc: Global, text: &[u8]) -> Result<Proof, ProofFault>
+    // The text is that of this proof.
+    ensures proof { IfOk result (IsProof text.now) }
+    ensures fronts { IfOk result (λ proof. All (λ p. p.cert.cnf.front ≡ 0) proof.parts) }
+    // It is the proof that it was written of, except `front`.
+    ensures written { (proof : Proof) → IsProof text.now proof → IfOk result (IsSameProof proof) }
+    // It is not the text of any proof, and this is the first line that shows it.
     ensures fault { IfErr result (IsFaultOf text.now) }
 {
-    match read_parts(alloc, text) {
-        Ok(parts) => Ok(parts),
+    match read_proof(alloc, text) {
+        Ok(proof) => Ok(proof),
         Err(Stop::NoMemory) => Err(ProofFault::NoMemory),
         Err(Stop::At { left }) => Err(ProofFault::Line(line_of(text, text.len() - left))),
     }

@@ -1,12 +1,13 @@
-//! Numbers, literals, clauses and chains of a line.
+//! Numbers, literals, clauses, chains and heads of a line.
 
-ghost use Rattle.std.specs.Prelude.{◌≡◌, ◌<◌, ◌↔◌, ◌++◌, IfNone, IfOk, IfSome, IsTrue, slice_get, Some, length, ℕ};
+ghost use Rattle.std.specs.Prelude.{◌≡◌, ◌<◌, ◌↔◌, ◌++◌, IfNone, IfOk, IfSome, IsTrue, List, slice_get, Some, length, ℕ};
 ghost use Rattle.std.specs.Fmt.{decimal};
 ghost use Rattle.clause_lits.specs.declared.lit.Lit.{Lit as LitValue};
-ghost use Rattle.proof_text.specs.Format.{IsClauseOver, IsPrintedNumber, IsSmall, IsStepOver, clause_line, counts_line, literal_text, log_line, step_line};
-ghost use Rattle.proof_text.specs.Words.{HasNoChain, IsChain, IsRead, chain_text};
+ghost use Rattle.proof_text.specs.Format.{IsClauseOver, IsHead, IsPrintedNumber, IsSmall, IsStepOver, clause_line, counts_line, head_line, literal_text, log_line, step_line};
+ghost use Rattle.proof_text.specs.Words.{HasNoChain, IsChain, IsNamed, IsRead, chain_text};
 
 use crate::cursor::next_word;
+use crate::part::Head;
 use clause_lits::{Clause, Lit, is_clause};
 use clause_log::Step;
 use smallvec::SmallVec;
@@ -31,16 +32,23 @@ pub fn is_printed_number(text: &[u8]) -> bool
     !text.is_empty() && text.iter().all(|byte| byte.is_ascii_digit()) && has_no_leading_zero(text)
 }
 
-/// The number below 2^62 that has these digits.
-pub fn number_in(digits: &[u8]) -> Option<u64>
-    ensures { IsRead IsSmall decimal digits.now result }
+/// The number below a limit that has these digits.
+fn number_below(limit: u64, digits: &[u8]) -> Option<u64>
+    ensures { IsRead (λ (n : ℕ). n < limit) decimal digits.now result }
 {
     if !is_printed_number(digits) {
         return None;
     }
     let text = str::from_utf8(digits).ok()?;
     let number = text.parse::<u64>().ok()?;
-    if number < 1 << 62 { Some(number) } else { None }
+    if number < limit { Some(number) } else { None }
+}
+
+/// The number below 2^62 that has these digits.
+fn number_in(digits: &[u8]) -> Option<u64>
+    ensures { IsRead IsSmall decimal digits.now result }
+{
+    number_below(1 << 62, digits)
 }
 
 /// The literal of a word.
@@ -156,4 +164,33 @@ pub fn log_in(line: &[u8]) -> Option<u64>
     ensures { IsRead IsSmall log_line line.now result }
 {
     number_in(line.strip_prefix(b"log ")?)
+}
+
+/// The number below 2^63 that follows a name, and the rest of the line after the space behind it.
+fn named_number_in<'a>(name: &[u8], line: &'a [u8]) -> Option<(u64, &'a [u8])>
+    ensures some { IfSome result (λ parts. IsNamed name.now line.now parts.0 parts.1.now) }
+    ensures none { IfNone result ((n : ℕ) (rest : List ℕ) → IsNamed name.now line.now n rest → ⊥) }
+{
+    let (digits, rest) = next_word(line.strip_prefix(name)?)?;
+    Some((number_below(1 << 63, digits)?, rest))
+}
+
+/// The head of a line.
+pub fn head_in(line: &[u8]) -> Option<Head>
+    ensures { IsRead IsHead head_line line.now result }
+{
+    let (turns, line) = named_number_in(b"turns ", line)?;
+    let (blocks, line) = named_number_in(b"blocks ", line)?;
+    let (bytes, line) = named_number_in(b"bytes ", line)?;
+    let (rounds, line) = named_number_in(b"rounds ", line)?;
+    let (conflicts, line) = named_number_in(b"conflicts ", line)?;
+    let weight = number_below(1 << 63, line.strip_prefix(b"weight ")?)?;
+    Some(Head {
+        turns,
+        blocks,
+        bytes,
+        rounds,
+        conflicts,
+        weight,
+    })
 }

@@ -1,12 +1,13 @@
-//! From parts to their text.
+//! From a proof to its text.
 
-ghost use Rattle.std.specs.Prelude.{◌≡◌, ◌++◌, ◌∷◌, [], All, IfOk, List, OnOk, Bool, codes, map};
+ghost use Rattle.std.specs.Prelude.{◌≡◌, ◌++◌, ◌∷◌, [], All, IfOk, IfSome, List, OnOk, Bool, codes, map};
 ghost use Rattle.std.specs.Fmt.{decimal};
 ghost use Rattle.std.specs.List.{flat_map};
 ghost use Rattle.proof_text.specs.declared.part.Part.{Part};
-ghost use Rattle.proof_text.specs.Format.{IsPart, IsProof, cert_lines, clause_line, counts_line, ended, literal_text, log_line, part_of, row_line, spaced, step_line};
+ghost use Rattle.proof_text.specs.declared.part.Proof.{Proof};
+ghost use Rattle.proof_text.specs.Format.{IsHead, IsPart, IsProof, IsSpellable, cert_lines, clause_line, counts_line, ended, head_line, literal_text, log_line, part_of, proof_with, row_line, spaced, step_line, with_parts};
 
-use crate::part::Part;
+use crate::part::{Head, Part, Proof};
 use clause_lits::{Clause, Lit};
 use clause_log::{Cert, Step};
 use std::alloc::Global;
@@ -131,11 +132,43 @@ fn push_cert(alloc: Global, out: &mut Vec<u8>, cert: &Cert) -> Result<(), NoMemo
     push_steps(alloc, out, cert.log.as_slice())
 }
 
-/// The text of no parts: the first line `tvproof 1`.
-pub fn begin(alloc: Global) -> Result<Vec<u8>, NoMemory>
-    ensures { IfOk result (λ text. IsProof text.items []) }
+fn push_named_number(
+    alloc: Global,
+    out: &mut Vec<u8>,
+    name: &[u8],
+    number: u64,
+) -> Result<(), NoMemory>
+    ensures { OnOk result (out.new.items ≡ out.old.items ++ (name.now ++ decimal number)) }
 {
-    Ok(Vec::from_slice(alloc, b"tvproof 1\n")?)
+    out.extend_from_slice(name)?;
+    push_number(alloc, out, number)
+}
+
+fn push_head(alloc: Global, out: &mut Vec<u8>, head: &Head) -> Result<(), NoMemory>
+    ensures { OnOk result (out.new.items ≡ out.old.items ++ (head_line head.now ++ 10 ∷ [])) }
+{
+    push_named_number(alloc, out, b"turns ", head.turns)?;
+    push_named_number(alloc, out, b" blocks ", head.blocks)?;
+    push_named_number(alloc, out, b" bytes ", head.bytes)?;
+    push_named_number(alloc, out, b" rounds ", head.rounds)?;
+    push_named_number(alloc, out, b" conflicts ", head.conflicts)?;
+    push_named_number(alloc, out, b" weight ", head.weight)?;
+    out.extend_from_slice(b"\n")?;
+    Ok(())
+}
+
+/// The text of no parts: the line `tvproof 2` and the line of the head, or without a head the line
+/// `tvproof 1`.
+pub fn begin(alloc: Global, head: Option<Head>) -> Result<Vec<u8>, NoMemory>
+    requires { IfSome head IsHead }
+    ensures { IfOk result (λ text. IsProof text.items (proof_with head [])) }
+{
+    let Some(head) = head else {
+        return Ok(Vec::from_slice(alloc, b"tvproof 1\n")?);
+    };
+    let mut text = Vec::from_slice(alloc, b"tvproof 2\n")?;
+    push_head(alloc, &mut text, &head)?;
+    Ok(text)
 }
 
 /// Adds a part at the end of a text of parts: its row, its clauses as in the DIMACS CNF format, and its
@@ -148,9 +181,9 @@ pub fn push_part(
     cert: &Cert,
 ) -> Result<(), NoMemory>
     requires { IsPart (part_of name.now is_correct cert.now) }
-    // The text of some parts is then that of these and one more.
-    ensures { OnOk result ((parts : List Part) → IsProof text.old.items parts
-        → IsProof text.new.items (parts ++ part_of name.now is_correct cert.now ∷ [])) }
+    // The text of a proof is then that of the proof with one part more.
+    ensures { OnOk result ((proof : Proof) → IsProof text.old.items proof
+        → IsProof text.new.items (with_parts proof (part_of name.now is_correct cert.now ∷ []))) }
 {
     push_row(text, name, is_correct)?;
     push_cert(alloc, text, cert)?;
@@ -158,9 +191,9 @@ pub fn push_part(
 }
 
 fn push_parts(alloc: Global, text: &mut Vec<u8>, parts: &[Part]) -> Result<(), NoMemory>
-    requires fit { All IsPart parts.now }
-    requires begun { IsProof text.old.items [] }
-    ensures { OnOk result (IsProof text.new.items parts.now) }
+    requires { All IsPart parts.now }
+    ensures { OnOk result ((proof : Proof) → IsProof text.old.items proof
+        → IsProof text.new.items (with_parts proof parts.now)) }
 {
     for part in parts {
         push_part(
@@ -174,13 +207,14 @@ fn push_parts(alloc: Global, text: &mut Vec<u8>, parts: &[Part]) -> Result<(), N
     Ok(())
 }
 
-/// The text of the parts: the first line `tvproof 1`, and for each part its row, its clauses as in the
-/// DIMACS CNF format, and its steps.
-pub fn write(alloc: Global, parts: &[Part]) -> Result<Vec<u8>, NoMemory>
-    requires { All IsPart parts.now }
-    ensures { IfOk result (λ text. IsProof text.items parts.now) }
+/// The text of a proof: the lines that [`begin`] gives, and for each part its row, its clauses as in
+/// the DIMACS CNF format, and its steps.
+pub fn write(alloc: Global, proof: &Proof) -> Result<Vec<u8>, NoMemory>
+    requires { IsSpellable proof.now }
+    ensures { IfOk result (λ text. IsProof text.items proof.now) }
 {
-    let mut out = begin(alloc)?;
+    let parts = proof.parts.as_slice();
+    let mut out = begin(alloc, proof.head)?;
     push_parts(alloc, &mut out, parts)?;
     Ok(out)
 }

@@ -1,4 +1,4 @@
-use Rattle.std.proofs.Common.{arith, ℕ, ◌≡◌, ◌++◌, Option, Some, None, ap, subst, ◌∙◌}
+use Rattle.std.proofs.Common.{arith, ℕ, ◌++◌, Option, Some, None, ap, subst, ◌∙◌}
 use Rattle.proof_files.specs.Checks.{IsBadStep, outcome_line}
 use Rattle.proof_files.proofs.Walking.{one_found}
 use Rattle.proof_files.proofs.checking.check_parts.Goals.{in-None, in-Some}

@@ -1,4 +1,4 @@
-use Rattle.proof_text.proofs.OneReading.{parts_are_one}
+use Rattle.proof_text.proofs.OneReading.{proofs_are_one}
 use Rattle.proof_text.proofs.Top.{first_fault, no_proof}
 use Rattle.proof_text.proofs.reader.parse.Goals as goal
 
@@ -9,4 +9,4 @@ returns-in-Err-At-clause-fault c =
     (first_fault text stuck.0 c.in-Err-At.left c.line_of.result stuck.1 stuck.2 c.line_of.ensures, no_proof text stuck.0 stuck.2)
 
 pub returns-in-Ok-clause-written : goal.returns-in-Ok-clause-written
-returns-in-Ok-clause-written c = λ parts of_parts. parts_are_one c.args.text.now parts c.in-Ok.parts of_parts c.in-Ok.ensures.ok.0
+returns-in-Ok-clause-written c = λ proof of_proof. proofs_are_one c.args.text.now proof c.in-Ok.proof of_proof c.in-Ok.ensures.ok.0

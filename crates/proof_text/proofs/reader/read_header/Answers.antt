@@ -1,14 +1,20 @@
-use Rattle.proof_text.proofs.Common.{◌≡◌, ◌∙◌, sym, true≢false, codes, slice_eq-Decides, Decides-eqb, File}
-use Rattle.proof_text.proofs.Languages.{file_missing, file_nil, some_file}
-use Rattle.proof_text.proofs.Moves.{stuck_at_end, stuck_at_line}
+use Rattle.proof_text.proofs.Common.{◌∷◌, [], subst, true, err_from_is_err_and, head_line, File, Limits, Moves, Rest, Rows, first_line}
+use Rattle.proof_text.proofs.Moves.{moves_then, stopped_after}
 use Rattle.proof_text.proofs.reader.read_header.Goals as goal
 
-pub returns-in_default-clause-err : goal.returns-in_default-clause-err
-returns-in_default-clause-err c =
-    let none = (rw c.in_default.is at c.next.ensures.none) in
-    rw c.left.ensures (stuck_at_end File c.args.lines.now some_file none.0 file_nil)
+pub returns-in_err-read_head-clause-err : goal.returns-in_err-read_head-clause-err
+returns-in_err-read_head-clause-err c =
+    let mid = c.read_format.new.lines in
+    let moved = subst (λ b. Moves File c.args.lines.now (first_line b ∷ []) (Rest b) mid) c.if-branch.true c.in_ok-read_format.ensures.ok in
+    let p = err_from_is_err_and c.from_residual-in_err-read_head.result c.from_residual-in_err-read_head.ensures.1 in
+    rw (p.1, p.2) (stopped_after File Limits c.args.lines.now mid (first_line true ∷ []) c.in_err-read_head.field-0.0 moved c.in_err-read_head.ensures.err)
 
-pub returns-else-eq-clause-err : goal.returns-else-eq-clause-err
-returns-else-eq-clause-err c =
-    let other = λ (z : c.in-Some.line.now ≡ codes "tvproof 1"). true≢false (sym ((slice_eq-Decides Decides-eqb c.in-Some.line.now c.as_slice.result.now c.eq.result c.eq.ensures).1 (z ∙ sym c.as_slice.ensures)) ∙ c.if-eq.false) in
-    rw c.left.ensures (stuck_at_line File c.args.lines.now c.in-Some.line.now c.next.new.self some_file c.in-Some.ensures.some (file_missing c.in-Some.line.now other))
+pub returns-in_ok-read_head-clause-ok : goal.returns-in_ok-read_head-clause-ok
+returns-in_ok-read_head-clause-ok c =
+    let mid = c.read_format.new.lines in
+    let moved = subst (λ b. Moves File c.args.lines.now (first_line b ∷ []) (Rest b) mid) c.if-branch.true c.in_ok-read_format.ensures.ok in
+    let read = c.in_ok-read_head.ensures.ok in
+    (read.0, moves_then File Limits Rows c.args.lines.now mid c.read_head.new.lines (first_line true ∷ []) (head_line c.in_ok-read_head.field-0 ∷ []) moved read.1)
+
+pub returns-else-branch-clause-ok : goal.returns-else-branch-clause-ok
+returns-else-branch-clause-ok c = (tt, subst (λ b. Moves File c.args.lines.now (first_line b ∷ []) (Rest b) c.read_format.new.lines) c.if-branch.false c.in_ok-read_format.ensures.ok)
