@@ -34,7 +34,7 @@ MARKS = {"correct": "fault may hide", "bounded": "fault may hide",
          "incorrect": "false alarm possible"}
 TRACED = "    | "
 # Promises of the caller: what a function does can't break them.
-OF_CALLER = re.compile(r"arg\d+:(align\(|dereferenceable|writable$|sret$)")
+OF_CALLER = re.compile(r"@[^:]*$|arg\d+:(align\(|dereferenceable|writable$|sret$)")
 
 
 @dataclasses.dataclass
@@ -280,7 +280,7 @@ def doubts_of(source, target, name, kind):
     """The promises that tv wasn't told of and that make a row doubtful. One that is missing in the
     source may make `incorrect` a false alarm, but for a caller's of a parameter that neither
     function uses. One that is missing in the target may make `correct` hide a fault, but for a
-    caller's that the source has too."""
+    caller's, or one of a variable, that the source has too."""
     if kind == "incorrect":
         unused = set(source.noted(name, "tv-unused")) & set(target.noted(name, "tv-unused"))
         return [each for each in source.noted(name, "tv-dropped")

@@ -85,7 +85,7 @@ listed_runnable targets source (Some pair) all one is =
 
 -- ---- how many there are
 
-one_pair : (source : Result Function Refused) (target : Option (Result Function Refused)) → length (pairs_in source target) ≤ 1
+pub one_pair : (source : Result Function Refused) (target : Option (Result Function Refused)) → length (pairs_in source target) ≤ 1
 one_pair (Ok f) (Some (Ok g)) = go (same_signature f g)
   where
     go : (same : Bool) → length (let ps : List Functions = if same then record { source = f; target = g } ∷ [] else [] in ps) ≤ 1

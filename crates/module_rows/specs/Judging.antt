@@ -1,5 +1,5 @@
 -- Which pairs of two modules are judged, and what the judge answered of them.
-use Rattle.std.specs.Prelude.{◌≡◌, List, [], ◌∷◌, drop, length, map, take, Option, Some, None, Result, Ok, Err, if◌then◌else◌}
+use Rattle.std.specs.Prelude.{◌≡◌, ◌&&◌, Bool, List, [], ◌∷◌, drop, length, map, take, Option, Some, None, Result, Ok, Err, if◌then◌else◌}
 use Rattle.std.specs.List.{flat_map}
 use Rattle.ir_tree.specs.declared.tree.Function.{Function}
 use Rattle.ir_tree.specs.declared.module.Refused.{Refused}
@@ -12,13 +12,14 @@ use Rattle.verdicts.specs.declared.verdict.Verdict.TheVariants as verdict
 use Rattle.verdicts.specs.Pair.{Functions, same_signature}
 use Rattle.verdicts.specs.Shown.{IsShown}
 use Rattle.pair_driver.specs.declared.judged.Judged.{Judged}
+use Rattle.pair_driver.specs.Incorrect.{is_incorrect}
 use Rattle.pair_judge.specs.Answers.{IsAnswer}
 use Rattle.pair_judge.specs.Laws.{MayBeTold}
 use Rattle.report.specs.declared.row.Side.TheVariants as side
 use Rattle.report.specs.declared.row.Finding.{Finding}
 use Rattle.report.specs.declared.row.Finding.TheVariants as finding
 use Rattle.report.specs.declared.row.Row.{Row}
-use Rattle.report.specs.Rows.{function_named}
+use Rattle.report.specs.Rows.{GoesOn, function_named}
 
 -- a function of the source and the target's of its name are judged where both are accepted and their signatures are equal
 abbrev pub pairs_in : Result Function Refused → Option (Result Function Refused) → List Functions
@@ -43,6 +44,13 @@ abbrev pub AreAnswers : Bounds → Budget → List Functions → List Judged →
 AreAnswers bounds budget [] [] = Unit {0}
 AreAnswers bounds budget (pair ∷ pairs) (answer ∷ answers) = IsAnswer pair bounds budget answer × AreAnswers bounds budget pairs answers
 AreAnswers bounds budget _ _ = ⊥
+
+-- an answer for each pair, in order, up to the first incorrect one where the report ends there
+abbrev pub AreAnswersUpTo : (first : Bool) → Bounds → Budget → List Functions → List Judged → Type 0
+AreAnswersUpTo first bounds budget [] [] = Unit {0}
+AreAnswersUpTo first bounds budget (pair ∷ pairs) (answer ∷ answers) =
+    IsAnswer pair bounds budget answer × GoesOn (first && is_incorrect answer) answers (AreAnswersUpTo first bounds budget pairs answers)
+AreAnswersUpTo first bounds budget _ _ = ⊥
 
 abbrev pub verdicts_in : Finding → List Verdict
 verdicts_in finding.Correct = verdict.Correct ∷ []
@@ -87,7 +95,7 @@ ReportsNext bounds budget (pair ∷ pairs) found (answer ∷ answers) Left = IsA
 
 -- the row of each pair that is judged has the verdict of that pair's own answer, and no other row has one
 abbrev pub ReportOwnAnswers : Bounds → Budget → (targets sources : List Entry) → List Row → List Judged → Type 0
-ReportOwnAnswers bounds budget targets [] rows answers = answers ≡ []
-ReportOwnAnswers bounds budget targets (source ∷ sources) [] answers = ⊥
+ReportOwnAnswers bounds budget targets sources [] answers = answers ≡ []
+ReportOwnAnswers bounds budget targets [] (row ∷ rows) answers = ⊥
 ReportOwnAnswers bounds budget targets (source ∷ sources) (row ∷ rows) answers =
     ReportsNext bounds budget (pairs_in source.function (function_named targets source.name)) row.finding answers (λ left. ReportOwnAnswers bounds budget targets sources rows left)

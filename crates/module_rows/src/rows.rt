@@ -1,18 +1,18 @@
 //! The rows of two modules, each with the verdict of its own pair.
 
-ghost use Rattle.std.specs.Prelude.{◌≡◌, ◌+◌, ◌*◌, ◌^◌, ◌<◌, ◌++◌, ◌∷◌, [], drop, take, length, slice_index_or, IfOk, IfSome, OnOk, Ok, Some, None};
-ghost use Rattle.std.specs.List.{IsDistinct, AllByRecursion};
+ghost use Rattle.std.specs.Prelude.{◌≡◌, ◌+◌, ◌*◌, ◌^◌, ◌<◌, ◌++◌, ◌∷◌, [], true, false, drop, take, length, slice_index_or, if◌then◌else◌, IfOk, IfSome, OnOk, Ok, Some, None};
+ghost use Rattle.std.specs.List.{IsDistinct, AllByRecursion, list_any};
 ghost use Rattle.ir_tree.specs.Names.{same_name};
 ghost use Rattle.ir_reader.specs.Judgeable.{IsJudgeableEntry};
 ghost use Rattle.lowering.specs.Lowered.{CanBeLowered};
-ghost use Rattle.report.specs.Rows.{IsJudged, IsFinding, IsRow, AreSourceRows, AreRows, extra_rows, function_named};
-ghost use Rattle.module_rows.specs.Judging.{AreAnswers, HasNext, IsTaken, IsUnjudged, ShowsVerdict, judged_pairs, pairs_in, listed, verdicts_answered, verdicts_in, verdicts_of};
+ghost use Rattle.report.specs.Rows.{IsJudged, IsFinding, IsRow, AreSourceRows, AreRows, ends as ends_report, extra_rows, function_named};
+ghost use Rattle.module_rows.specs.Judging.{AreAnswers, AreAnswersUpTo, HasNext, IsTaken, IsUnjudged, ShowsVerdict, judged_pairs, pairs_in, listed, verdicts_answered, verdicts_in, verdicts_of};
 ghost use Rattle.module_rows.specs.Judging.{may_answer};
 ghost use Rattle.module_rows.specs.Searching.{entry_names, function_found};
 
 use crate::index::{find, names_of};
 use ir_tree::{Entry, Module, Names, copy_name};
-use pair_driver::{Gate, Judged, drive, judge_all};
+use pair_driver::{Gate, Judged, drive, drive_first, judge_all};
 use pair_judge::{Real, answers_are_verdicts};
 use points::{Bounds, copy_point};
 use replay::replay;
@@ -46,16 +46,45 @@ pub fn all_rows<G: Gate, R: Threads + Sync>(
     requires target_names { IsDistinct same_name (entry_names target.now.entries) }
     requires source_judgeable { AllByRecursion IsJudgeableEntry source.now.entries }
     requires target_judgeable { AllByRecursion IsJudgeableEntry target.now.entries }
-    ensures rows { IfOk result (λ r. AreRows (may_answer judge.now.bounds judge.now.budget) judge.now.bounds source.now target.now r.rows.items) }
+    ensures rows { IfOk result (λ r. AreRows false (may_answer judge.now.bounds judge.now.budget) judge.now.bounds source.now target.now r.rows.items) }
     ensures answered { IfOk result (λ r. AreAnswers judge.now.bounds judge.now.budget (judged_pairs target.now.entries source.now.entries) r.answers.items) }
     ensures reported { IfOk result (λ r. verdicts_of r.rows.items ≡ verdicts_answered r.answers.items) }
 {
     let pairing = paired(alloc, source, target)?;
     let answers = drive(rt, alloc, judge, gate, pairing.pairs.as_slice(), workers)?;
-    judgements_of(alloc, judge, source, target, &pairing.names, answers)
+    let judgements = judgements_of(alloc, judge, source, target, &pairing.names, answers, false)?;
+    Ok(judgements)
 }
 
-/// The same, the pairs judged one after the other on the caller's thread.
+/// The rows up to and with the first incorrect one, or all where none is incorrect. The pairs are judged
+/// by `workers` workers, which begin no pair after one that is known to be incorrect; the answers are
+/// those of the pairs whose rows there are.
+pub fn first_rows<G: Gate, R: Threads + Sync>(
+    rt: &R,
+    alloc: Global,
+    judge: &Real,
+    gate: &G,
+    source: &Module,
+    target: &Module,
+    workers: u64,
+) -> Result<Judgements, NoMemory>
+    requires some_worker { 0 < workers }
+    requires fits { workers * (length source.now.entries + 1) < 2 ^ 64 }
+    requires source_names { IsDistinct same_name (entry_names source.now.entries) }
+    requires target_names { IsDistinct same_name (entry_names target.now.entries) }
+    requires source_judgeable { AllByRecursion IsJudgeableEntry source.now.entries }
+    requires target_judgeable { AllByRecursion IsJudgeableEntry target.now.entries }
+    ensures rows { IfOk result (λ r. AreRows true (may_answer judge.now.bounds judge.now.budget) judge.now.bounds source.now target.now r.rows.items) }
+    ensures answered { IfOk result (λ r. AreAnswers judge.now.bounds judge.now.budget (take (length r.answers.items) (judged_pairs target.now.entries source.now.entries)) r.answers.items) }
+    ensures reported { IfOk result (λ r. verdicts_of r.rows.items ≡ verdicts_answered r.answers.items) }
+{
+    let pairing = paired(alloc, source, target)?;
+    let answers = drive_first(rt, alloc, judge, gate, pairing.pairs.as_slice(), workers)?;
+    let judgements = judgements_of(alloc, judge, source, target, &pairing.names, answers, true)?;
+    Ok(judgements)
+}
+
+/// The same as [`all_rows`], the pairs judged one after the other on the caller's thread.
 pub fn rows_in_turn(
     alloc: Global,
     judge: &Real,
@@ -66,13 +95,14 @@ pub fn rows_in_turn(
     requires target_names { IsDistinct same_name (entry_names target.now.entries) }
     requires source_judgeable { AllByRecursion IsJudgeableEntry source.now.entries }
     requires target_judgeable { AllByRecursion IsJudgeableEntry target.now.entries }
-    ensures rows { IfOk result (λ r. AreRows (may_answer judge.now.bounds judge.now.budget) judge.now.bounds source.now target.now r.rows.items) }
+    ensures rows { IfOk result (λ r. AreRows false (may_answer judge.now.bounds judge.now.budget) judge.now.bounds source.now target.now r.rows.items) }
     ensures answered { IfOk result (λ r. AreAnswers judge.now.bounds judge.now.budget (judged_pairs target.now.entries source.now.entries) r.answers.items) }
     ensures reported { IfOk result (λ r. verdicts_of r.rows.items ≡ verdicts_answered r.answers.items) }
 {
     let pairing = paired(alloc, source, target)?;
     let answers = judge_all(alloc, judge, pairing.pairs.as_slice())?;
-    judgements_of(alloc, judge, source, target, &pairing.names, answers)
+    let judgements = judgements_of(alloc, judge, source, target, &pairing.names, answers, false)?;
+    Ok(judgements)
 }
 
 /// The names of the target's functions, and the pairs that are judged, in the order of the source's
@@ -98,7 +128,8 @@ fn paired<'m>(
     Ok(Pairing { names, pairs })
 }
 
-/// The rows of two modules whose pairs have these answers, and the answers.
+/// The rows of two modules whose pairs have these answers, and the answers. They end at the first
+/// incorrect row where `first` says so.
 fn judgements_of(
     alloc: Global,
     judge: &Real,
@@ -106,20 +137,29 @@ fn judgements_of(
     target: &Module,
     names: &Names,
     answers: Vec<Judged>,
+    first: bool,
 ) -> Result<Judgements, NoMemory>
     requires names { names.now ≡ entry_names target.now.entries }
     requires source_names { IsDistinct same_name (entry_names source.now.entries) }
     requires source_judgeable { AllByRecursion IsJudgeableEntry source.now.entries }
     requires target_judgeable { AllByRecursion IsJudgeableEntry target.now.entries }
-    requires answered { AreAnswers judge.now.bounds judge.now.budget (judged_pairs target.now.entries source.now.entries) answers.items }
-    ensures rows { IfOk result (λ r. AreRows (may_answer judge.now.bounds judge.now.budget) judge.now.bounds source.now target.now r.rows.items) }
-    ensures answered { IfOk result (λ r. AreAnswers judge.now.bounds judge.now.budget (judged_pairs target.now.entries source.now.entries) r.answers.items) }
-    ensures reported { IfOk result (λ r. verdicts_of r.rows.items ≡ verdicts_answered r.answers.items) }
+    requires answered { AreAnswersUpTo first judge.now.bounds judge.now.budget (judged_pairs target.now.entries source.now.entries) answers.items }
+    ensures rows { IfOk result (λ r. AreRows first (may_answer judge.now.bounds judge.now.budget) judge.now.bounds source.now target.now r.rows.items) }
+    ensures answers { IfOk result (λ r. r.answers.items ≡ answers.items) }
+    ensures reported { IfOk result (λ r. verdicts_of r.rows.items ≡ verdicts_answered answers.items) }
 {
     let sources = source.entries.as_slice();
     let targets = target.entries.as_slice();
-    let mut rows = source_rows(alloc, judge, sources, targets, names, answers.as_slice())?;
-    push_extra_rows(alloc, &mut rows, sources, targets)?;
+    let mut rows = source_rows(
+        alloc,
+        judge,
+        sources,
+        targets,
+        names,
+        answers.as_slice(),
+        first,
+    )?;
+    push_rest(alloc, &mut rows, sources, targets, first)?;
     Ok(Judgements { rows, answers })
 }
 
@@ -175,6 +215,7 @@ pub fn pair_of<'m>(source: &'m Entry, target: Option<&'m Entry>) -> Option<Pair<
 }
 
 /// The rows of the source's functions, with the verdicts of the answers, which are those of their pairs.
+/// They end at the first incorrect row where `first` says so.
 fn source_rows(
     alloc: Global,
     judge: &Real,
@@ -182,20 +223,33 @@ fn source_rows(
     targets: &[Entry],
     names: &Names,
     answers: &[Judged],
+    first: bool,
 ) -> Result<Vec<Row>, NoMemory>
     requires names { names.now ≡ entry_names targets.now }
     requires source_judgeable { AllByRecursion IsJudgeableEntry sources.now }
     requires target_judgeable { AllByRecursion IsJudgeableEntry targets.now }
-    requires answered { AreAnswers judge.now.bounds judge.now.budget (judged_pairs targets.now sources.now) answers.now }
-    ensures rows { IfOk result (λ rows. AreSourceRows (may_answer judge.now.bounds judge.now.budget) judge.now.bounds targets.now sources.now rows.items) }
+    requires answered { AreAnswersUpTo first judge.now.bounds judge.now.budget (judged_pairs targets.now sources.now) answers.now }
+    ensures rows { IfOk result (λ rows. AreSourceRows first (may_answer judge.now.bounds judge.now.budget) judge.now.bounds targets.now sources.now rows.items) }
     ensures reported { IfOk result (λ rows. verdicts_of rows.items ≡ verdicts_answered answers.now) }
 {
     let mut rows = Vec::new(alloc);
     let mut left = answers;
     for source in sources {
-        rows.push(next_row(alloc, judge, source, targets, names, &mut left)?)?;
+        let row = next_row(alloc, judge, source, targets, names, &mut left)?;
+        let ended = ends(first, &row);
+        rows.push(row)?;
+        if ended {
+            return Ok(rows);
+        }
     }
     Ok(rows)
+}
+
+/// Whether a report ends at the row.
+fn ends(first: bool, row: &Row) -> bool
+    ensures { result ≡ ends_report first row.now }
+{
+    first && matches!(row.finding, Finding::Incorrect { .. })
 }
 
 /// The row of a function of the source. Where its pair is judged, the first of the answers that are left
@@ -303,6 +357,35 @@ fn finding_of(
         }
         Verdict::Unknown(cause) => Ok(Finding::Unknown(*cause)),
     }
+}
+
+/// Adds the rows of the functions that only the target has, unless a row ends the report.
+fn push_rest(
+    alloc: Global,
+    rows: &mut Vec<Row>,
+    sources: &[Entry],
+    targets: &[Entry],
+    first: bool,
+) -> Result<(), NoMemory>
+    requires { IsDistinct same_name (entry_names sources.now) }
+    ensures { OnOk result (rows.new.items ≡ rows.old.items ++ (if list_any (ends_report first) rows.old.items then [] else extra_rows sources.now targets.now)) }
+{
+    if has_ended(first, rows.as_slice()) {
+        return Ok(());
+    }
+    push_extra_rows(alloc, rows, sources, targets)
+}
+
+/// Whether a report ends at one of the rows.
+fn has_ended(first: bool, rows: &[Row]) -> bool
+    ensures { result ≡ list_any (ends_report first) rows.now }
+{
+    for row in rows {
+        if ends(first, row) {
+            return true;
+        }
+    }
+    false
 }
 
 fn push_extra_rows(

@@ -1,5 +1,6 @@
 -- Two modules have one list of rows, where a judge may report one verdict of each pair.
-use Rattle.std.proofs.Common.{◌≡◌, refl, sym, ap, subst, ◌∙◌, List, [], ◌∷◌, ◌++◌, Option, Some, None, Result, Ok, Err, Bool, true, false, ℕ}
+use Rattle.std.proofs.Common.{◌≡◌, refl, sym, ap, subst, ◌∙◌, List, [], ◌∷◌, ◌++◌, Option, Some, None, Result, Ok, Err, Bool, true, false, ℕ, cond}
+use Rattle.std.specs.List.{list_any}
 use Rattle.ir_tree.specs.declared.name.Name.{Name}
 use Rattle.ir_tree.specs.declared.tree.Function.{Function}
 use Rattle.ir_tree.specs.declared.module.Refused.{Refused}
@@ -19,7 +20,7 @@ use Rattle.verdicts.specs.Trail.{IsVerdict}
 use Rattle.report.specs.declared.row.Finding.{Finding}
 use Rattle.report.specs.declared.row.Finding.TheVariants as finding
 use Rattle.report.specs.declared.row.Row.{Row}
-use Rattle.report.specs.Rows.{function_named, IsJudged, IsCompared, IsFinding, IsRow, AreSourceRows, AreRows, extra_rows, RowsAreOne}
+use Rattle.report.specs.Rows.{function_named, IsJudged, IsCompared, IsFinding, IsRow, ends, GoesOn, AreSourceRows, AreRows, extra_rows, RowsAreOne}
 
 -- a judge that may report one verdict of each pair
 abbrev pub TellsOne : (Functions → Verdict → Type 0) → Type 0
@@ -92,26 +93,32 @@ finding_one tells one bounds (Ok f) (Some (Ok g)) found other x y = compared_one
 same_row : (n n' : Name) (f f' : Finding) → n ≡ n' → f ≡ f' → ◌≡◌ {A = Row} (record { name = n; finding = f }) (record { name = n'; finding = f' })
 same_row n n' f f' p q = cc
 
-row_one : (tells : Functions → Verdict → Type 0) → TellsOne tells → (bounds : Bounds) → (targets : List Entry) (source : Entry) (row other : Row) → IsRow tells bounds targets source row → IsRow tells bounds targets source other → row ≡ other
+pub row_one : (tells : Functions → Verdict → Type 0) → TellsOne tells → (bounds : Bounds) → (targets : List Entry) (source : Entry) (row other : Row) → IsRow tells bounds targets source row → IsRow tells bounds targets source other → row ≡ other
 row_one tells one bounds targets source row other x y =
     same_row row.name other.name row.finding other.finding (x.name ∙ sym y.name) (finding_one tells one bounds source.function (function_named targets source.name) row.finding other.finding x.found y.found)
 
-source_rows_one : (tells : Functions → Verdict → Type 0) → TellsOne tells → (bounds : Bounds) → (targets sources : List Entry) (rows others : List Row) → AreSourceRows tells bounds targets sources rows → AreSourceRows tells bounds targets sources others → rows ≡ others
-source_rows_one tells one bounds targets [] [] [] x y = refl
-source_rows_one tells one bounds targets [] [] (other ∷ others) x y = absurd y
-source_rows_one tells one bounds targets [] (row ∷ rows) others x y = absurd x
-source_rows_one tells one bounds targets (source ∷ sources) [] others x y = absurd x
-source_rows_one tells one bounds targets (source ∷ sources) (row ∷ rows) [] x y = absurd y
-source_rows_one tells one bounds targets (source ∷ sources) (row ∷ rows) (other ∷ others) x y =
+after_one : (ended : Bool) (Rest Rest' : Type 0) (rows others : List Row) → (Rest → Rest' → rows ≡ others) → GoesOn ended rows Rest → GoesOn ended others Rest' → rows ≡ others
+after_one true Rest Rest' rows others same x y = x ∙ sym y
+after_one false Rest Rest' rows others same x y = same x y
+
+source_rows_one : (first : Bool) (tells : Functions → Verdict → Type 0) → TellsOne tells → (bounds : Bounds) → (targets sources : List Entry) (rows others : List Row) → AreSourceRows first tells bounds targets sources rows → AreSourceRows first tells bounds targets sources others → rows ≡ others
+source_rows_one first tells one bounds targets [] [] [] x y = refl
+source_rows_one first tells one bounds targets [] [] (other ∷ others) x y = absurd y
+source_rows_one first tells one bounds targets [] (row ∷ rows) others x y = absurd x
+source_rows_one first tells one bounds targets (source ∷ sources) [] others x y = absurd x
+source_rows_one first tells one bounds targets (source ∷ sources) (row ∷ rows) [] x y = absurd y
+source_rows_one first tells one bounds targets (source ∷ sources) (row ∷ rows) (other ∷ others) x y =
     let e : row ≡ other = row_one tells one bounds targets source row other x.0 y.0 in
-    let f : rows ≡ others = source_rows_one tells one bounds targets sources rows others x.1 y.1 in
+    let z = subst (λ (r : Row). GoesOn (ends first r) others (AreSourceRows first tells bounds targets sources others)) (sym e) y.1 in
+    let f : rows ≡ others = after_one (ends first row) (AreSourceRows first tells bounds targets sources rows) (AreSourceRows first tells bounds targets sources others) rows others
+    (λ u v. source_rows_one first tells one bounds targets sources rows others u v) x.1 z in
     cc (e, f)
 
-pub rows_one : (tells : Functions → Verdict → Type 0) → TellsOne tells → (bounds : Bounds) (source target : Module) (rows others : List Row) → AreRows tells bounds source target rows → AreRows tells bounds source target others → rows ≡ others
-rows_one tells one bounds source target rows others x y =
-    let e : x.judged ≡ y.judged = source_rows_one tells one bounds target.entries source.entries x.judged y.judged x.each y.each in
-    x.all ∙ ap (λ (js : List Row). js ++ extra_rows source.entries target.entries) e ∙ sym y.all
+pub rows_one : (first : Bool) (tells : Functions → Verdict → Type 0) → TellsOne tells → (bounds : Bounds) (source target : Module) (rows others : List Row) → AreRows first tells bounds source target rows → AreRows first tells bounds source target others → rows ≡ others
+rows_one first tells one bounds source target rows others x y =
+    let e : x.judged ≡ y.judged = source_rows_one first tells one bounds target.entries source.entries x.judged y.judged x.each y.each in
+    x.all ∙ ap (λ (js : List Row). js ++ cond (list_any (ends first) js) [] (extra_rows source.entries target.entries)) e ∙ sym y.all
 
 pub rows_are_one : VerdictsAreOne → RowsAreOne
-rows_are_one one bounds budget source target rows others fits x y =
-    rows_one (λ pair v. IsVerdict pair bounds budget v) (λ pair v w. one pair bounds budget v w fits) bounds source target rows others x y
+rows_are_one one first bounds budget source target rows others fits x y =
+    rows_one first (λ pair v. IsVerdict pair bounds budget v) (λ pair v w. one pair bounds budget v w fits) bounds source target rows others x y

@@ -1,5 +1,6 @@
 -- Which rows two modules have, by what a judge may report of a pair.
-use Rattle.std.specs.Prelude.{◌≡◌, List, [], ◌∷◌, ◌++◌, Option, Some, None, Result, Ok, Err, Bool, true, false, is_some, if◌then◌else◌}
+use Rattle.std.specs.Prelude.{◌≡◌, ◌&&◌, List, [], ◌∷◌, ◌++◌, Option, Some, None, Result, Ok, Err, Bool, true, false, is_some, if◌then◌else◌}
+use Rattle.std.specs.List.{list_any}
 use Rattle.ir_tree.specs.declared.name.Name.{Name}
 use Rattle.ir_tree.specs.declared.tree.Function.{Function}
 use Rattle.ir_tree.specs.declared.module.Refused.{Refused}
@@ -18,6 +19,8 @@ use Rattle.report.specs.declared.row.Side.TheVariants as side
 use Rattle.report.specs.declared.row.Finding.{Finding}
 use Rattle.report.specs.declared.row.Finding.TheVariants as finding
 use Rattle.report.specs.declared.row.Row.{Row}
+use Rattle.report.specs.declared.status.Class.TheVariants as class
+use Rattle.report.specs.Status.{is_of_class}
 
 -- what a name denotes: the first function of that name, or why it is refused
 abbrev pub function_named : List Entry → Name → Option (Result Function Refused)
@@ -47,11 +50,21 @@ pub record IsRow (tells : Functions → Verdict → Type 0) (bounds : Bounds) (t
   pub name : row.name ≡ source.name
   pub found : IsFinding tells bounds source.function (function_named targets source.name) row.finding
 
--- a row for each function of the source, in text order
-abbrev pub AreSourceRows : (Functions → Verdict → Type 0) → Bounds → List Entry → List Entry → List Row → Type 0
-AreSourceRows tells bounds targets [] [] = Unit {0}
-AreSourceRows tells bounds targets (source ∷ sources) (row ∷ rows) = IsRow tells bounds targets source row × AreSourceRows tells bounds targets sources rows
-AreSourceRows tells bounds targets _ _ = ⊥
+-- whether a report ends at the row: at its first incorrect one, where it is to end there
+abbrev pub ends : Bool → Row → Bool
+ends first row = first && is_of_class class.Incorrect row.finding
+
+-- where the report ends nothing is left, and else `Rest` holds of what is left
+abbrev pub GoesOn : {X : Type 0} → (ended : Bool) → List X → (Rest : Type 0) → Type 0
+GoesOn true left Rest = left ≡ []
+GoesOn false left Rest = Rest
+
+-- a row for each function of the source, in text order, up to the one that ends the report
+abbrev pub AreSourceRows : Bool → (Functions → Verdict → Type 0) → Bounds → List Entry → List Entry → List Row → Type 0
+AreSourceRows first tells bounds targets [] [] = Unit {0}
+AreSourceRows first tells bounds targets (source ∷ sources) (row ∷ rows) =
+    IsRow tells bounds targets source row × GoesOn (ends first row) rows (AreSourceRows first tells bounds targets sources rows)
+AreSourceRows first tells bounds targets _ _ = ⊥
 
 abbrev pub extra_row : Entry → Row
 extra_row target = record { name = target.name; finding = finding.Extra }
@@ -61,13 +74,25 @@ abbrev pub extra_rows : List Entry → List Entry → List Row
 extra_rows sources [] = []
 extra_rows sources (target ∷ targets) = if is_some (function_named sources target.name) then extra_rows sources targets else extra_row target ∷ extra_rows sources targets
 
--- those of the source, then those of the target
-pub record AreRows (tells : Functions → Verdict → Type 0) (bounds : Bounds) (source target : Module) (rows : List Row) : Type 0 where
+-- those of the source, then those of the target where none of the source ends the report
+pub record AreRows (first : Bool) (tells : Functions → Verdict → Type 0) (bounds : Bounds) (source target : Module) (rows : List Row) : Type 0 where
   pub judged : List Row
-  pub each : AreSourceRows tells bounds target.entries source.entries judged
-  pub all : rows ≡ judged ++ extra_rows source.entries target.entries
+  pub each : AreSourceRows first tells bounds target.entries source.entries judged
+  pub all : rows ≡ judged ++ (if list_any (ends first) judged then [] else extra_rows source.entries target.entries)
 
 -- with the verdicts by their definition two modules have at most one list of rows
 abbrev pub RowsAreOne : Type 0
-RowsAreOne = (bounds : Bounds) (budget : Budget) (source target : Module) (rows others : List Row) → AreInRange bounds budget
-    → AreRows (λ pair v. IsVerdict pair bounds budget v) bounds source target rows → AreRows (λ pair v. IsVerdict pair bounds budget v) bounds source target others → rows ≡ others
+RowsAreOne = (first : Bool) (bounds : Bounds) (budget : Budget) (source target : Module) (rows others : List Row) → AreInRange bounds budget
+    → AreRows first (λ pair v. IsVerdict pair bounds budget v) bounds source target rows → AreRows first (λ pair v. IsVerdict pair bounds budget v) bounds source target others → rows ≡ others
+
+-- ---- the first incorrect row
+
+-- the rows up to and with the first incorrect one, or all where none is incorrect
+abbrev pub first_rows : List Row → List Row
+first_rows [] = []
+first_rows (row ∷ rows) = row ∷ (if ends true row then [] else first_rows rows)
+
+-- and these are the rows of a report that ends there
+abbrev pub FirstRowsAreTheFirst : Type 0
+FirstRowsAreTheFirst = (bounds : Bounds) (budget : Budget) (source target : Module) (rows all : List Row) → AreInRange bounds budget
+    → AreRows true (λ pair v. IsVerdict pair bounds budget v) bounds source target rows → AreRows false (λ pair v. IsVerdict pair bounds budget v) bounds source target all → rows ≡ first_rows all

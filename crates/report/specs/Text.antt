@@ -1,5 +1,5 @@
 -- The text of a report: a first line, the rows with their counterexamples, and a last line of counts.
-use Rattle.std.specs.Prelude.{ℕ, ◌+◌, List, [], ◌∷◌, ◌++◌, take, Option, None, Some, codes, nat_lt, if◌then◌else◌}
+use Rattle.std.specs.Prelude.{ℕ, Bool, true, false, ◌+◌, List, [], ◌∷◌, ◌++◌, take, Option, None, Some, codes, nat_lt, if◌then◌else◌}
 use Rattle.std.specs.Fmt.{decimal}
 use Rattle.std.specs.List.{flat_map}
 use Rattle.ir_tree.specs.declared.module.Reason.{Reason}
@@ -170,8 +170,13 @@ bounds_text bounds = counted (codes "tv 1 turns ") bounds.turns ++ counted (code
 abbrev pub budget_text : Budget → List ℕ
 budget_text budget = counted (codes " rounds ") budget.rounds ++ counted (codes " conflicts ") budget.conflicts ++ counted (codes " weight ") budget.weight
 
-abbrev pub first_line : Bounds → Budget → List ℕ
-first_line bounds budget = bounds_text bounds ++ budget_text budget ++ newline
+-- the word of a report that ends at its first incorrect row
+abbrev pub first_word : Bool → List ℕ
+first_word true = codes " first"
+first_word false = []
+
+abbrev pub first_line : Bounds → Budget → Bool → List ℕ
+first_line bounds budget first = bounds_text bounds ++ budget_text budget ++ first_word first ++ newline
 
 abbrev pub judged_counts : List Row → List ℕ
 judged_counts rows = counted (codes "correct ") (count class.Correct rows) ++ counted (codes " incorrect ") (count class.Incorrect rows) ++ counted (codes " unknown ") (count class.Unknown rows)
@@ -182,9 +187,9 @@ other_counts rows = counted (codes " refused ") (count class.Refused rows) ++ co
 abbrev pub last_line : List Row → List ℕ
 last_line rows = judged_counts rows ++ other_counts rows ++ newline
 
-abbrev pub report_text : Bounds → Budget → List Row → List ℕ
-report_text bounds budget rows = first_line bounds budget ++ flat_map row_text rows ++ last_line rows
+abbrev pub report_text : Bounds → Budget → Bool → List Row → List ℕ
+report_text bounds budget first rows = first_line bounds budget first ++ flat_map row_text rows ++ last_line rows
 
--- only the first and the last line, with these bytes between them
+-- only the first and the last line of a report of all rows, with these bytes between them
 abbrev pub summary_text : Bounds → Budget → List ℕ → List Row → List ℕ
-summary_text bounds budget between rows = first_line bounds budget ++ between ++ last_line rows
+summary_text bounds budget between rows = first_line bounds budget false ++ between ++ last_line rows

@@ -1,6 +1,6 @@
 ghost use Rattle.std.specs.Prelude.{◌≡◌, ◌++◌, OnOk, IfOk};
 ghost use Rattle.std.specs.List.{flat_map};
-ghost use Rattle.report.specs.Text.{cause_text, side_text, reason_text, refused_text, finding_text, row_text, counted, bounds_text, budget_text, first_line, judged_counts, other_counts, last_line, report_text, summary_text};
+ghost use Rattle.report.specs.Text.{cause_text, side_text, reason_text, refused_text, finding_text, row_text, counted, bounds_text, budget_text, first_word, first_line, judged_counts, other_counts, last_line, newline, report_text, summary_text};
 
 use crate::counterexample::push_shown;
 use crate::row::{Finding, Row, Side};
@@ -14,24 +14,26 @@ use support::NoMemory;
 use verdicts::Cause;
 
 /// The text of a report: a first line with the bounds and the budget, a row for each function with its
-/// counterexample below it, and a last line with the number of rows of each class. Each line ends with
-/// a newline. The text is ASCII where the digits of names are.
+/// counterexample below it, and a last line with the number of rows of each class. The first line also
+/// says whether the report ends at its first incorrect row. Each line ends with a newline. The text is
+/// ASCII where the digits of names are.
 pub fn text_of(
     alloc: Global,
     rows: &[Row],
     bounds: &Bounds,
     budget: &Budget,
+    first: bool,
 ) -> Result<Vec<u8>, NoMemory>
-    ensures { IfOk result (λ text. text.items ≡ report_text bounds.now budget.now rows.now) }
+    ensures { IfOk result (λ text. text.items ≡ report_text bounds.now budget.now first rows.now) }
 {
     let mut out = Vec::new(alloc);
-    push_first_line(alloc, &mut out, bounds, budget)?;
+    push_first_line(alloc, &mut out, bounds, budget, first)?;
     push_rows(alloc, &mut out, rows)?;
     push_last_line(alloc, &mut out, rows)?;
     Ok(out)
 }
 
-/// The first and the last line of a report, with these bytes between them.
+/// The first and the last line of a report of all rows, with these bytes between them.
 pub fn summary_of(
     alloc: Global,
     rows: &[Row],
@@ -42,7 +44,7 @@ pub fn summary_of(
     ensures { IfOk result (λ text. text.items ≡ summary_text bounds.now budget.now between.now rows.now) }
 {
     let mut out = Vec::new(alloc);
-    push_first_line(alloc, &mut out, bounds, budget)?;
+    push_first_line(alloc, &mut out, bounds, budget, false)?;
     out.extend_from_slice(between)?;
     push_last_line(alloc, &mut out, rows)?;
     Ok(out)
@@ -166,12 +168,24 @@ fn push_first_line(
     out: &mut Vec<u8>,
     bounds: &Bounds,
     budget: &Budget,
+    first: bool,
 ) -> Result<(), NoMemory>
-    ensures { OnOk result (out.new.items ≡ out.old.items ++ first_line bounds.now budget.now) }
+    ensures { OnOk result (out.new.items ≡ out.old.items ++ first_line bounds.now budget.now first) }
 {
     push_bounds(alloc, out, bounds)?;
     push_budget(alloc, out, budget)?;
-    out.extend_from_slice(b"\n")?;
+    push_line_end(out, first)
+}
+
+/// The end of the first line, with the word of a report that ends at its first incorrect row.
+fn push_line_end(out: &mut Vec<u8>, first: bool) -> Result<(), NoMemory>
+    ensures { OnOk result (out.new.items ≡ out.old.items ++ (first_word first ++ newline)) }
+{
+    if first {
+        out.extend_from_slice(b" first\n")?;
+    } else {
+        out.extend_from_slice(b"\n")?;
+    }
     Ok(())
 }
 

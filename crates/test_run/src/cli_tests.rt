@@ -2,9 +2,10 @@
 //!
 //! A row is a line of arguments, separated by single spaces (two spaces in a row hold the empty
 //! argument), and after `=>` what it asks for: the two files, the bounds (turns, blocks, bytes), the
-//! budget (rounds, conflicts, weight) and the workers, and where there is one `to` and the file for
-//! the proof; or `log` and the file; or `make`, the seed, the functions and the instructions, and
-//! the bounds, the budget and the workers; or `-` where it is rejected.
+//! budget (rounds, conflicts, weight) and the workers, where there is one `to` and the file for the
+//! proof, and `first` where the report ends at the first incorrect row; or `log` and the file; or
+//! `make`, the seed, the functions and the instructions, and the bounds, the budget and the workers;
+//! or `-` where it is rejected.
 
 use std::test::*;
 use tv_cli::{Check, Job, Make, read_job};
@@ -51,7 +52,6 @@ tv check --turns => -
 tv check A B --turns => -
 tv check --turn 3 A B => -
 tv check -t 3 A B => -
-tv check --first A B => -
 tv --turns 3 check A B => -";
 
 /// Numbers are read as `parse` reads them.
@@ -97,6 +97,29 @@ tv check A B --proof P --proof P => -
 tv check A B --proof=P --proof=Q => -
 tv check A B --proof => -
 tv check A B --proof --turns 3 => -";
+
+/// The report may end at the first incorrect row. The flag has no value, comes once, and only `check`
+/// has it.
+const FIRSTS: &str = "\
+tv check --first A B => A B 4 2 8 64 0 100000 4 first
+tv check A --first B => A B 4 2 8 64 0 100000 4 first
+tv check A B --first => A B 4 2 8 64 0 100000 4 first
+tv check --turns 3 --first A -- B => A B 3 2 8 64 0 100000 4 first
+tv check --first --proof P A B => A B 4 2 8 64 0 100000 4 to P first
+tv check --proof=--first A B => A B 4 2 8 64 0 100000 4 to --first
+tv check -- --first B => --first B 4 2 8 64 0 100000 4
+tv check --first -- --first B => --first B 4 2 8 64 0 100000 4 first
+tv check --first A --first B => -
+tv check --first=1 A B => -
+tv check --first= A B => -
+tv check --first true A B => -
+tv check --turns --first A B => -
+tv check --firsts A B => -
+tv make --first => -
+tv make --first=1 => -
+tv log --first FILE => -
+tv log -- --first => log --first
+tv --first check A B => -";
 
 /// A proof file is checked by itself.
 const LOGS: &str = "\
@@ -245,9 +268,12 @@ fn shown_check<R: AllocGlobal>(rt: &R, check: &Check<'_>) -> Result<String, Fail
     let within = format!(in rt.alloc(); "{} {} {}", bounds.turns, bounds.blocks, bounds.bytes)?;
     let spent = format!(in rt.alloc(); "{} {} {}", budget.rounds, budget.conflicts, budget.weight)?;
     let workers = check.workers;
+    let first = if check.first { " first" } else { "" };
     match check.proof {
-        Some(proof) => Ok(format!(in rt.alloc(); "{files} {within} {spent} {workers} to {proof}")?),
-        None => Ok(format!(in rt.alloc(); "{files} {within} {spent} {workers}")?),
+        Some(proof) => Ok(format!(in rt.alloc();
+            "{files} {within} {spent} {workers} to {proof}{first}"
+        )?),
+        None => Ok(format!(in rt.alloc(); "{files} {within} {spent} {workers}{first}")?),
     }
 }
 
@@ -287,6 +313,7 @@ fn command_lines_are_read(rt: HostRuntime) -> Result<(), Fail> {
     are_asked(&rt, NUMBERS)?;
     are_asked(&rt, FILES)?;
     are_asked(&rt, PROOFS)?;
+    are_asked(&rt, FIRSTS)?;
     are_asked(&rt, LOGS)?;
     are_asked(&rt, COMMANDS)
 }

@@ -21,6 +21,8 @@ mod cli_tests;
 #[cfg(test)]
 mod cut_tests;
 #[cfg(test)]
+mod first_tests;
+#[cfg(test)]
 mod flow_tests;
 #[cfg(test)]
 mod in_memory_tests;

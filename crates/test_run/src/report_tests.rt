@@ -37,7 +37,7 @@ fn a_report_has_a_line_for_each_row(rt: HostRuntime) -> Result<(), Fail> {
     let mut rows = Vec::new(alloc);
     rows.push(row(alloc, "f", Finding::Correct)?)?;
     rows.push(row(alloc, "g h", Finding::Missing)?)?;
-    let text = text_of(alloc, rows.as_slice(), &BOUNDS, &BUDGET)?;
+    let text = text_of(alloc, rows.as_slice(), &BOUNDS, &BUDGET, false)?;
     if text.as_slice() == TEXT.as_bytes() && status_of(rows.as_slice()) == 3 {
         Ok(())
     } else {

@@ -1,6 +1,7 @@
 -- The arguments of the commands, as `clap` has them.
-use Rattle.tv_cli.proofs.Common.{◌≡◌, ◌||◌, ◌+◌, ℕ, min, Bool, true, false, true≢false, refl, sym, ap, subst, List, [], ◌∷◌, Option, Some, None, codes, list_any, bytes_eq, bytes_eq-Decides, usize_max, Row, Rule, arg_by_id, arg_by_index, arg_by_long, arg_by_short, is_append, action_of, most_values, takes_several, takes_values, used, with_values, without, or_else, repeat_fault, use_fault, Shape, built, built_leaf, filled, inherited, marked_built, on_top, with_index, with_leaf_noted, CommandLine, AsWritten, Text, check_options, is_option, make_options, check_app, log_app, make_app, name_rule, option_rule, tv_app, or_parts}
+use Rattle.tv_cli.proofs.Common.{◌≡◌, ◌||◌, ◌+◌, ℕ, min, Bool, true, false, true≢false, refl, sym, ap, subst, List, [], ◌∷◌, Option, Some, None, codes, list_any, bytes_eq, bytes_eq-Decides, usize_max, Row, Rule, arg_by_id, arg_by_index, arg_by_long, arg_by_short, is_append, action_of, most_values, takes_several, takes_values, used, with_values, without, or_else, repeat_fault, use_fault, Shape, built_leaf, filled, inherited, marked_built, on_top, with_index, with_leaf_noted, CommandLine, AsWritten, Text, check_options, flags, is_option, make_options, check_app, log_app, make_app, flag_rule, name_rule, option_rule, tv_app, or_parts}
 use Rattle.clap.specs.declared.error.kind.ErrorKind.TheVariants as kind
+use Rattle.tv_cli.proofs.Uses.{Knows, flag_value, has_flag, has_option}
 
 -- an argument that takes one value, once
 pub record RuleOf (c : List Rule) (id : Text) : Type 0 where
@@ -20,12 +21,24 @@ pub record OptionOf (c : List Rule) (id : Text) : Type 0 where
   pub of : RuleOf c id
   pub by_long : arg_by_long c id ≡ Some of.rule
 
--- a command that has the options that are known
-pub record IsCommand (is_known : Text → Bool) (s : Shape) : Type 0 where
+-- a flag
+pub record FlagOf (c : List Rule) (id : Text) : Type 0 where
+  pub rule : Rule
+  pub by_long : arg_by_long c id ≡ Some rule
+  pub takes : takes_values rule ≡ false
+  pub fault : (rows : List Row) → use_fault false rule [] rows ≡ or_else (repeat_fault false id rows) []
+  pub used_is : (rows : List Row) → used rule [] rows ≡ with_values id AsWritten CommandLine (flag_value ∷ []) (without id rows)
+
+-- a command that has the options and the flags that are known
+pub record IsCommand (knows : Knows) (s : Shape) : Type 0 where
   pub again : s.args_override_self ≡ false
   pub leaf : s.is_leaf ≡ true
-  pub known : (n : Text) → is_known n ≡ true → OptionOf s.rules n
-  pub unknown : (n : Text) → is_known n ≡ false → arg_by_long s.rules n ≡ None
+  pub known : (n : Text) → has_option knows n ≡ true → OptionOf s.rules n
+  pub flagged : (n : Text) → has_flag knows n ≡ true → FlagOf s.rules n
+  pub unknown : (n : Text) → has_option knows n ≡ false → has_flag knows n ≡ false → arg_by_long s.rules n ≡ None
+  -- no flag of any command is one of its options, and its flags are among those
+  pub no_option : (n : Text) → is_option flags n ≡ true → has_option knows n ≡ false
+  pub no_flag : (n : Text) → is_option flags n ≡ false → has_flag knows n ≡ false
   pub no_short : (x : ℕ) → arg_by_short s.rules x ≡ None
 
 -- the name at this position
@@ -87,6 +100,9 @@ option_of c id e f = record {
   by_long = f;
 }
 
+flag_of : (c : List Rule) (id : Text) → arg_by_long c id ≡ Some (filled (flag_rule id)) → FlagOf c id
+flag_of c id e = record { rule = filled (flag_rule id); by_long = e; takes = refl; fault = λ rows. refl; used_is = λ rows. refl }
+
 -- ---- names of options
 
 abbrev pub Each : (Text → Type 0) → List Text → Type 0
@@ -125,17 +141,25 @@ options_of c (x ∷ xs) all = (option_of c x (ap (λ found. found.0) all.0) (ap 
 
 -- ---- `check`
 
-no_check_option : (n : Text) → is_option check_options n ≡ false → arg_by_long check_shape.rules n ≡ None
-no_check_option n e =
-    let no = no_match check_options n e in
-    rw (no.0, no.1.0, no.1.1.0, no.1.1.1.0, no.1.1.1.1.0, no.1.1.1.1.1.0, no.1.1.1.1.1.1.0, no.1.1.1.1.1.1.1.0) refl
+abbrev pub check_knows : Knows
+check_knows = record { options = check_options; flags = flags }
 
-pub is_check : IsCommand (is_option check_options) check_shape
+no_check_option : (n : Text) → is_option check_options n ≡ false → is_option flags n ≡ false → arg_by_long check_shape.rules n ≡ None
+no_check_option n e f =
+    let no = no_match check_options n e in
+    let no_flags = no_match flags n f in
+    rw (no.0, no.1.0, no.1.1.0, no.1.1.1.0, no.1.1.1.1.0, no.1.1.1.1.1.0, no.1.1.1.1.1.1.0, no.1.1.1.1.1.1.1.0, no_flags.0) refl
+
+pub is_check : IsCommand check_knows check_shape
+unfolding flag_of
 is_check = record {
   again = refl;
   leaf = refl;
   known = each (OptionOf check_shape.rules) check_options (options_of check_shape.rules check_options (refl, (refl, (refl, (refl, (refl, (refl, (refl, (refl, tt)))))))));
+  flagged = each (FlagOf check_shape.rules) flags (flag_of check_shape.rules (codes "first") refl, tt);
   unknown = no_check_option;
+  no_option = each (λ n. is_option check_options n ≡ false) flags (refl, tt);
+  no_flag = λ n e. e;
   no_short = λ x. refl;
 }
 
@@ -148,11 +172,20 @@ names_of_check = (record { of = name_of check_shape.rules (codes "A") 1 refl; fo
 
 -- ---- `log`
 
-abbrev pub is_no_option : Text → Bool
-is_no_option n = false
+abbrev pub log_knows : Knows
+log_knows = record { options = []; flags = [] }
 
-pub is_log : IsCommand is_no_option log_shape
-is_log = record { again = refl; leaf = refl; known = λ n e. absurd (true≢false (sym e)); unknown = λ n e. refl; no_short = λ x. refl }
+pub is_log : IsCommand log_knows log_shape
+is_log = record {
+  again = refl;
+  leaf = refl;
+  known = λ n e. absurd (true≢false (sym e));
+  flagged = λ n e. absurd (true≢false (sym e));
+  unknown = λ n e f. refl;
+  no_option = λ n e. refl;
+  no_flag = λ n e. refl;
+  no_short = λ x. refl;
+}
 
 abbrev pub log_names : List Text
 log_names = codes "FILE" ∷ []
@@ -163,17 +196,23 @@ names_of_log = (record { of = name_of log_shape.rules (codes "FILE") 1 refl; fou
 
 -- ---- `make`
 
+abbrev pub make_knows : Knows
+make_knows = record { options = make_options; flags = [] }
+
 no_make_option : (n : Text) → is_option make_options n ≡ false → arg_by_long make_shape.rules n ≡ None
 no_make_option n e =
     let no = no_match make_options n e in
     rw (no.0, no.1.0, no.1.1.0, no.1.1.1.0, no.1.1.1.1.0, no.1.1.1.1.1.0, no.1.1.1.1.1.1.0, no.1.1.1.1.1.1.1.0, no.1.1.1.1.1.1.1.1.0, no.1.1.1.1.1.1.1.1.1.0) refl
 
-pub is_make : IsCommand (is_option make_options) make_shape
+pub is_make : IsCommand make_knows make_shape
 is_make = record {
   again = refl;
   leaf = refl;
   known = each (OptionOf make_shape.rules) make_options (options_of make_shape.rules make_options (refl, (refl, (refl, (refl, (refl, (refl, (refl, (refl, (refl, (refl, tt)))))))))));
-  unknown = no_make_option;
+  flagged = λ n e. absurd (true≢false (sym e));
+  unknown = λ n e f. no_make_option n e;
+  no_option = each (λ n. is_option make_options n ≡ false) flags (refl, tt);
+  no_flag = λ n e. refl;
   no_short = λ x. refl;
 }
 

@@ -1,33 +1,20 @@
 -- What a walk of `clap` comes to is the job that the words are.
-use Rattle.tv_cli.proofs.Common.{◌≡◌, Bool, true, false, cond, refl, sym, ap, ap₂, subst, ◌∙◌, List, [], ◌∷◌, ◌++◌, map, Option, Some, None, option_map, codes, fold, inl, inr, ◌⊎◌, is_some, String, string_bytes, IsUtf8, option_and_then, bytes_eq, IsUtf8-string_bytes, Row, Rule, Kinds, fault_of, first_of, subcommand_of, Held, Names, Walk, finished, has_row, nothing_held, rows_after, settled, walk, walk_from, walked, with_default, or_else, check_fault, defaults_fault, default_fault, entered_fault, flags_fault, level_fault, settle_fault, turn_fault, walk_fault, App, Shape, built, entered, walk_stopped, clap_on_literals, Text, Kind, Part, Job, check_in_parts, check_options, file_in_parts, is_option, job_of, kind_of, make_in_parts, make_options, parts_of, check, log, make, end, attached, separate, dashed, plain, option, name, check_in_rows, job_in_rows, job_walked, make_in_rows, tv_app, unless_fault}
-use Rattle.tv_cli.proofs.Uses.{Use, after, rows_of_uses}
+use Rattle.tv_cli.proofs.Common.{◌≡◌, Bool, true, false, cond, refl, sym, ap, ap₂, subst, ◌∙◌, List, [], ◌∷◌, ◌++◌, map, Option, Some, None, option_map, codes, fold, inl, inr, ◌⊎◌, is_some, String, string_bytes, IsUtf8, option_and_then, bytes_eq, IsUtf8-string_bytes, Row, Rule, Kinds, fault_of, first_of, subcommand_of, Held, Names, Walk, finished, nothing_held, rows_after, settled, walk, walk_from, walked, with_default, or_else, check_fault, defaults_fault, default_fault, entered_fault, flags_fault, level_fault, settle_fault, turn_fault, walk_fault, App, Shape, built, entered, walk_stopped, clap_on_literals, Text, Kind, Part, Job, check_in_parts, file_in_parts, filled, flag_rule, job_of, kind_of, make_in_parts, parts_of, take, check, log, make, end, attached, separate, dashed, plain, option, flag, name, check_in_rows, job_in_rows, job_walked, make_in_rows, tv_app, unless_fault}
+use Rattle.tv_cli.proofs.Uses.{Knows, Use, after}
 use Rattle.tv_cli.proofs.WordKinds.{Met, ends_options, met}
-use Rattle.tv_cli.proofs.Arguments.{IsCommand, NamesFrom, check_names, check_shape, is_check, is_log, is_make, is_no_option, log_names, log_shape, make_shape, names_of_check, names_of_log, names_of_make}
+use Rattle.tv_cli.proofs.Arguments.{IsCommand, NamesFrom, check_knows, check_names, check_shape, is_check, is_log, is_make, log_knows, log_names, log_shape, make_knows, make_shape, names_of_check, names_of_log, names_of_make}
 use Rattle.tv_cli.proofs.Steps.{AgreesFrom, IsFault, at, fault_left}
 use Rattle.tv_cli.proofs.Walks.{AreTexts, walks}
-use Rattle.tv_cli.proofs.Asking.{outcome_of}
+use Rattle.tv_cli.proofs.Asking.{outcome_of, rows_with_defaults}
+use Rattle.tv_cli.proofs.Defaults.{NoDefaults, default_fault-none, default_fault-flag}
 use Rattle.tv_cli.proofs.CheckOutcome.{check-outcome}
 use Rattle.tv_cli.proofs.MakeOutcome.{make-outcome}
 
--- ---- no argument has a default
+-- ---- no default is a fault
 
-abbrev NoDefaults : List Rule → Type 0
-NoDefaults [] = Unit {0}
-NoDefaults (r ∷ rs) = (r.defaults ≡ []) × NoDefaults rs
-
-with_default-none : (rows : List Row) (r : Rule) → r.defaults ≡ [] → with_default rows r ≡ rows
-with_default-none rows r e = go (has_row r.id rows) refl
-  where
-    go : (b : Bool) → has_row r.id rows ≡ b → with_default rows r ≡ rows
-    go true f = rw f refl
-    go false f = rw (f, e) refl
-
-default_fault-none : (rows : List Row) (r : Rule) → r.defaults ≡ [] → default_fault rows r ≡ []
-default_fault-none rows r e = go (has_row r.id rows) refl
-  where
-    go : (b : Bool) → has_row r.id rows ≡ b → default_fault rows r ≡ []
-    go true f = rw f refl
-    go false f = rw (f, e) refl
+abbrev QuietDefaults : List Rule → Type 0
+QuietDefaults [] = Unit {0}
+QuietDefaults (r ∷ rs) = ((rows : List Row) → default_fault rows r ≡ []) × QuietDefaults rs
 
 defaults-step : (rules : List Rule) (rows : List Row) (r : Rule) → defaults_fault rows (r ∷ rules) ≡ or_else (default_fault rows r) (defaults_fault (with_default rows r) rules)
 unfolding defaults_fault
@@ -37,22 +24,26 @@ no-rules : (rows : List Row) → defaults_fault rows [] ≡ []
 unfolding defaults_fault
 no-rules rows = refl
 
-defaults-none : (rules : List Rule) (rows : List Row) → NoDefaults rules → defaults_fault rows rules ≡ []
-defaults-none [] rows none = no-rules rows
-defaults-none (r ∷ rules) rows none = defaults-step rules rows r ∙ (λ i. or_else (default_fault-none rows r none.0 i) (defaults_fault (with_default-none rows r none.0 i) rules)) ∙ defaults-none rules rows none.1
+quiet-defaults : (rules : List Rule) (rows : List Row) → QuietDefaults rules → defaults_fault rows rules ≡ []
+quiet-defaults [] rows quiet = no-rules rows
+quiet-defaults (r ∷ rules) rows quiet = defaults-step rules rows r ∙ ap (λ kinds. or_else kinds (defaults_fault (with_default rows r) rules)) (quiet.0 rows) ∙ quiet-defaults rules (with_default rows r) quiet.1
 
-finished-none : (rules : List Rule) (rows : List Row) → NoDefaults rules → fold with_default rows rules ≡ rows
-finished-none [] rows none = refl
-finished-none (r ∷ rules) rows none = ap (λ x. fold with_default x rules) (with_default-none rows r none.0) ∙ finished-none rules rows none.1
+none-quiet : (rules : List Rule) → NoDefaults rules → QuietDefaults rules
+none-quiet [] none = tt
+none-quiet (r ∷ rules) none = (default_fault-none r none.0, none-quiet rules none.1)
 
-check_defaults : NoDefaults check_shape.rules
-check_defaults = (refl, (refl, (refl, (refl, (refl, (refl, (refl, (refl, (refl, (refl, tt))))))))))
+none-then-flag : (rules : List Rule) (id : Text) → NoDefaults rules → QuietDefaults (rules ++ filled (flag_rule id) ∷ [])
+none-then-flag [] id none = (default_fault-flag id, tt)
+none-then-flag (r ∷ rules) id none = (default_fault-none r none.0, none-then-flag rules id none.1)
 
-log_defaults : NoDefaults log_shape.rules
-log_defaults = (refl, tt)
+check_defaults : QuietDefaults check_shape.rules
+check_defaults = none-then-flag (take 10 check_shape.rules) (codes "first") (refl, (refl, (refl, (refl, (refl, (refl, (refl, (refl, (refl, (refl, tt))))))))))
 
-make_defaults : NoDefaults make_shape.rules
-make_defaults = (refl, (refl, (refl, (refl, (refl, (refl, (refl, (refl, (refl, (refl, tt))))))))))
+log_defaults : QuietDefaults log_shape.rules
+log_defaults = none-quiet log_shape.rules (refl, tt)
+
+make_defaults : QuietDefaults make_shape.rules
+make_defaults = none-quiet make_shape.rules (refl, (refl, (refl, (refl, (refl, (refl, (refl, (refl, (refl, (refl, tt))))))))))
 
 -- ---- the words after a command
 
@@ -78,9 +69,9 @@ start = walk_from nothing_held
 abbrev faults_after : Shape → List Text → Kinds
 faults_after s ws = or_else (level_fault s [] nothing_held ws false []) []
 
--- of a command without defaults
-module _ {A : Type 0} (is_known : Text → Bool) (s : Shape) (k : IsCommand is_known s) (none : NoDefaults s.rules) (read : List Row → Option A) where
-  level : (ws : List Text) (o : Option (List Use)) → AgreesFrom is_known s k o (at false [] None 1) ws → unless_fault (faults_after s ws) (read (rows_after s.rules [] ws)) ≡ outcome_of s read o
+-- of a command of which no default is a fault
+module _ {A : Type 0} (knows : Knows) (s : Shape) (k : IsCommand knows s) (quiet : QuietDefaults s.rules) (read : List Row → Option A) where
+  level : (ws : List Text) (o : Option (List Use)) → AgreesFrom knows s k o (at false [] None 1) ws → unless_fault (faults_after s ws) (read (rows_after s.rules [] ws)) ≡ outcome_of s read o
   level ws None fault =
       ap (λ again. unless_fault (or_else (or_else (walk_fault s [] start ws) (or_else (settle_fault s.rules again (fold (walked s.rules []) start ws).held) (after_settling again))) []) (read (rows_after s.rules [] ws))) k.again
       ∙ unless_fault-fault _ _ (fault_left _ [] (fault-through (walk_fault s [] start ws) (settle_fault s.rules false (fold (walked s.rules []) start ws).held) (after_settling false) fault))
@@ -91,43 +82,45 @@ module _ {A : Type 0} (is_known : Text → Bool) (s : Shape) (k : IsCommand is_k
       let held : Held = (fold (walked s.rules []) start ws).held in
       let parts = or_else-empty (walk_fault s [] start ws) (settle_fault s.rules false held) agrees.0 in
       let settling : settle_fault s.rules s.args_override_self held ≡ [] = ap (λ again. settle_fault s.rules again held) k.again ∙ parts.1 in
-      let rows : finished s.rules held ≡ rows_of_uses us = finished-none s.rules (settled s.rules held).rows none ∙ agrees.1 in
-      let kinds : level_fault s [] nothing_held ws false [] ≡ check_fault s (rows_of_uses us) false =
-      (λ i. or_else (parts.0 i) (or_else (settling i) (or_else (defaults-none s.rules (settled s.rules held).rows none i) (check_fault s (rows i) false)))) in
+      let rows : finished s.rules held ≡ rows_with_defaults s us = ap (λ found. fold with_default found s.rules) agrees.1 in
+      let kinds : level_fault s [] nothing_held ws false [] ≡ check_fault s (rows_with_defaults s us) false =
+      (λ i. or_else (parts.0 i) (or_else (settling i) (or_else (quiet-defaults s.rules (settled s.rules held).rows quiet i) (check_fault s (rows i) false)))) in
       ap₂ (λ x y. unless_fault (or_else x []) (read y)) kinds rows
 
   command_walked : (ids : List Text) → NamesFrom s.rules 1 ids → (ws : List Text) → AreTexts ws
-      → unless_fault (faults_after s ws) (read (rows_after s.rules [] ws)) ≡ outcome_of s read (after is_known (Some []) ids (parts_of None ws))
-  command_walked ids names ws texts = level ws (after is_known (Some []) ids (parts_of None ws)) ((walks is_known s k ws texts).idles [] None ids 1 names tt)
+      → unless_fault (faults_after s ws) (read (rows_after s.rules [] ws)) ≡ outcome_of s read (after knows (Some []) ids (parts_of None ws))
+  command_walked ids names ws texts = level ws (after knows (Some []) ids (parts_of None ws)) ((walks knows s k ws texts).idles [] None ids 1 names tt)
 
-check-parts : (parts : Option (List Part)) → outcome_of check_shape check_in_rows (after (is_option check_options) (Some []) check_names parts) ≡ check_in_parts parts
+check-parts : (parts : Option (List Part)) → outcome_of check_shape check_in_rows (after check_knows (Some []) check_names parts) ≡ check_in_parts parts
 check-parts None = refl
 check-parts (Some ps) = check-outcome ps
 
 file_in_rows : List Row → Option Text
 file_in_rows rows = first_of (codes "FILE") rows
 
-log-parts : (parts : Option (List Part)) → outcome_of log_shape file_in_rows (after is_no_option (Some []) log_names parts) ≡ file_in_parts parts
+log-parts : (parts : Option (List Part)) → outcome_of log_shape file_in_rows (after log_knows (Some []) log_names parts) ≡ file_in_parts parts
 unfolding file_in_rows
 log-parts None = refl
 log-parts (Some []) = refl
 log-parts (Some (option n v ∷ ps)) = refl
+log-parts (Some (flag n ∷ ps)) = refl
 log-parts (Some (name t ∷ [])) = refl
 log-parts (Some (name t ∷ option n v ∷ ps)) = refl
+log-parts (Some (name t ∷ flag n ∷ ps)) = refl
 log-parts (Some (name t ∷ name u ∷ ps)) = refl
 
-make-parts : (parts : Option (List Part)) → outcome_of make_shape make_in_rows (after (is_option make_options) (Some []) [] parts) ≡ make_in_parts parts
+make-parts : (parts : Option (List Part)) → outcome_of make_shape make_in_rows (after make_knows (Some []) [] parts) ≡ make_in_parts parts
 make-parts None = refl
 make-parts (Some ps) = make-outcome ps
 
 check_walked : (ws : List Text) → AreTexts ws → unless_fault (faults_after check_shape ws) (check_in_rows (rows_after check_shape.rules [] ws)) ≡ check_in_parts (parts_of None ws)
-check_walked ws texts = command_walked (is_option check_options) check_shape is_check check_defaults check_in_rows check_names names_of_check ws texts ∙ check-parts (parts_of None ws)
+check_walked ws texts = command_walked check_knows check_shape is_check check_defaults check_in_rows check_names names_of_check ws texts ∙ check-parts (parts_of None ws)
 
 log_walked : (ws : List Text) → AreTexts ws → unless_fault (faults_after log_shape ws) (file_in_rows (rows_after log_shape.rules [] ws)) ≡ file_in_parts (parts_of None ws)
-log_walked ws texts = command_walked is_no_option log_shape is_log log_defaults file_in_rows log_names names_of_log ws texts ∙ log-parts (parts_of None ws)
+log_walked ws texts = command_walked log_knows log_shape is_log log_defaults file_in_rows log_names names_of_log ws texts ∙ log-parts (parts_of None ws)
 
 make_walked : (ws : List Text) → AreTexts ws → unless_fault (faults_after make_shape ws) (make_in_rows (rows_after make_shape.rules [] ws)) ≡ make_in_parts (parts_of None ws)
-make_walked ws texts = command_walked (is_option make_options) make_shape is_make make_defaults make_in_rows [] names_of_make ws texts ∙ make-parts (parts_of None ws)
+make_walked ws texts = command_walked make_knows make_shape is_make make_defaults make_in_rows [] names_of_make ws texts ∙ make-parts (parts_of None ws)
 
 -- ---- the first word
 

@@ -9,6 +9,8 @@ pub mod Arguments
 pub mod Steps
 pub mod Walks
 pub mod Values
+pub mod Defaults
+pub mod Parts
 pub mod Asking
 pub mod Limits
 pub mod CheckOutcome

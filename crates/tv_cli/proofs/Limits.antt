@@ -1,5 +1,5 @@
 -- The bounds and the budget of a job, by the values of its options.
-use Rattle.tv_cli.proofs.Common.{◌≡◌, ℕ, refl, List, [], Option, Some, None, codes, Bounds, Budget, Text, bounds_with, budget_with, number_once, turns_range, blocks_range, bytes_range, rounds_range, conflicts_range, weight_range, bounds_in_rows, budget_in_rows}
+use Rattle.tv_cli.proofs.Common.{◌≡◌, ℕ, refl, List, [], Option, Some, None, codes, Bounds, Budget, Text, bounds_with, budget_with, number_once, turns_range, blocks_range, bytes_range, rounds_range, conflicts_range, weight_range, bounds_in_rows, budget_in_rows, Row, first_of, number_or_usual}
 use Rattle.tv_cli.proofs.Uses.{Use, rows_of_uses}
 use Rattle.tv_cli.proofs.Values.{AreOnce, IsTwice, all_values, number-uses, number_once-twice}
 
@@ -18,6 +18,18 @@ bounds-uses us once = λ i. bounds_with (number-uses us once turns_range (codes 
 pub budget-uses : (us : List Use) → AreOnce us
     → budget_in_rows (rows_of_uses us) ≡ budget_values (all_values us [])
 budget-uses us once = λ i. budget_with (number-uses us once rounds_range (codes "rounds") i) (number-uses us once conflicts_range (codes "conflicts") i) (number-uses us once weight_range (codes "weight") i)
+
+-- ---- of the same rows
+
+pub bounds-rows : (f g : List Row) → first_of (codes "turns") f ≡ first_of (codes "turns") g
+    → first_of (codes "blocks") f ≡ first_of (codes "blocks") g → first_of (codes "bytes") f ≡ first_of (codes "bytes") g
+    → bounds_in_rows f ≡ bounds_in_rows g
+bounds-rows f g turns blocks bytes = λ i. bounds_with (number_or_usual turns_range (turns i)) (number_or_usual blocks_range (blocks i)) (number_or_usual bytes_range (bytes i))
+
+pub budget-rows : (f g : List Row) → first_of (codes "rounds") f ≡ first_of (codes "rounds") g
+    → first_of (codes "conflicts") f ≡ first_of (codes "conflicts") g → first_of (codes "weight") f ≡ first_of (codes "weight") g
+    → budget_in_rows f ≡ budget_in_rows g
+budget-rows f g rounds conflicts weight = λ i. budget_with (number_or_usual rounds_range (rounds i)) (number_or_usual conflicts_range (conflicts i)) (number_or_usual weight_range (weight i))
 
 -- ---- of the same values
 

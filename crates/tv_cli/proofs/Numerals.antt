@@ -1,5 +1,5 @@
 -- A number as a text.
-use Rattle.tv_cli.proofs.Common.{◌≡◌, ◌≤◌, ◌&&◌, ℕ, Bool, true, false, true≢false, refl, List, [], ◌∷◌, length, Some, None, nat_lt, nat_le, lt-ltb, ltb-true, leb-true, list_all, digit_value, AllDigits, IsNumeral, digits_value, without_leading_plus, Range, number_within, and_parts}
+use Rattle.tv_cli.proofs.Common.{◌≡◌, ◌≤◌, ◌&&◌, ℕ, Bool, true, false, refl, List, [], ◌∷◌, length, Some, None, nat_lt, nat_le, lt-ltb, ltb-true, leb-true, list_all, digit_value, AllDigits, IsNumeral, digits_value, without_leading_plus, Range, number_within, and_parts}
 
 digits_pass : (ds : List ℕ) → AllDigits 10 ds → list_all (λ d. nat_lt (digit_value d) 10) ds ≡ true
 digits_pass [] h = refl

@@ -1,5 +1,5 @@
 -- The bounds and the budget of a job are in their ranges.
-use Rattle.tv_cli.proofs.Common.{◌≡◌, ◌≤◌, ◌&&◌, ℕ, Bool, true, false, true≢false, cond, refl, sym, ap, subst, arith, List, [], ◌∷◌, length, Option, Some, None, option_map, is_some, ◌∙◌, codes, nat_lt, nat_le, leb-true, list_all, digit_value, bytes_eq, digits_value, without_leading_plus, Bounds, Budget, Range, check, log, make, Text, Part, Check, Make, Job, number_within, number_once, values_in, bounds_with, budget_with, check_with, check_named, check_in_parts, check_options, file_in_parts, job_of, make_in_parts, names_in, are_known, parts_of, turns_range, blocks_range, bytes_range, rounds_range, conflicts_range, weight_range, same_Some}
+use Rattle.tv_cli.proofs.Common.{◌≡◌, ◌≤◌, ◌&&◌, ℕ, Bool, true, false, true≢false, cond, refl, sym, ap, subst, arith, List, [], ◌∷◌, length, Option, Some, None, option_map, is_some, ◌∙◌, codes, nat_lt, nat_le, leb-true, list_all, digit_value, bytes_eq, digits_value, without_leading_plus, Bounds, Budget, Range, check, log, make, Text, Part, Check, Make, Job, number_within, number_once, values_in, bounds_with, budget_with, check_with, check_named, check_in_parts, check_options, flags, file_in_parts, job_of, make_in_parts, names_in, are_known, parts_of, turns_range, blocks_range, bytes_range, rounds_range, conflicts_range, weight_range, same_Some}
 
 pub none≢some : {X : Type 0} (x : X) → None ≡ Some x → ⊥
 none≢some x e = true≢false (sym (ap (λ o. is_some o) e))
@@ -55,20 +55,21 @@ budget None y z b p q r e = absurd (none≢some b e)
 abbrev AreWithin : Check → Type 0
 AreWithin c = BoundsWithin c.bounds × BudgetWithin c.budget
 
-joined : (source target : Text) (b : Option Bounds) (g : Option Budget) (w : Option ℕ) (f : Option (Option Text)) (c : Check) → ((x : Bounds) → b ≡ Some x → BoundsWithin x) → ((x : Budget) → g ≡ Some x → BudgetWithin x)
-    → check_with source target b g w f ≡ Some c → AreWithin c
-joined source target (Some b) (Some g) (Some w) (Some f) c p q e = subst AreWithin (same_Some _ c e) (p b refl, q g refl)
-joined source target (Some b) (Some g) (Some w) None c p q e = absurd (none≢some c e)
-joined source target (Some b) (Some g) None f c p q e = absurd (none≢some c e)
-joined source target (Some b) None w f c p q e = absurd (none≢some c e)
-joined source target None g w f c p q e = absurd (none≢some c e)
+joined : (source target : Text) (b : Option Bounds) (g : Option Budget) (w : Option ℕ) (f : Option (Option Text)) (h : Option Bool) (c : Check) → ((x : Bounds) → b ≡ Some x → BoundsWithin x) → ((x : Budget) → g ≡ Some x → BudgetWithin x)
+    → check_with source target b g w f h ≡ Some c → AreWithin c
+joined source target (Some b) (Some g) (Some w) (Some f) (Some h) c p q e = subst AreWithin (same_Some _ c e) (p b refl, q g refl)
+joined source target (Some b) (Some g) (Some w) (Some f) None c p q e = absurd (none≢some c e)
+joined source target (Some b) (Some g) (Some w) None h c p q e = absurd (none≢some c e)
+joined source target (Some b) (Some g) None f h c p q e = absurd (none≢some c e)
+joined source target (Some b) None w f h c p q e = absurd (none≢some c e)
+joined source target None g w f h c p q e = absurd (none≢some c e)
 
 named : (names : List Text) (parts : List Part) (c : Check) → check_named names parts ≡ Some c → AreWithin c
 named [] parts c e = absurd (none≢some c e)
 named (source ∷ []) parts c e = absurd (none≢some c e)
 named (source ∷ target ∷ other ∷ names) parts c e = absurd (none≢some c e)
 named (source ∷ target ∷ []) parts c e =
-    joined source target _ _ _ _ c
+    joined source target _ _ _ _ _ c
     (λ x. bounds _ _ _ x
     (λ n. once turns_range (values_in (codes "turns") parts) n (record { least = omega arith; most = omega arith }))
     (λ n. once blocks_range (values_in (codes "blocks") parts) n (record { least = omega arith; most = omega arith }))
@@ -81,7 +82,7 @@ named (source ∷ target ∷ []) parts c e =
 
 parted : (parts : Option (List Part)) (c : Check) → check_in_parts parts ≡ Some c → AreWithin c
 parted None c e = absurd (none≢some c e)
-parted (Some parts) c e = go (are_known check_options parts) e
+parted (Some parts) c e = go (are_known check_options flags parts) e
   where
     go : (b : Bool) → cond b (check_named (names_in parts) parts) None ≡ Some c → AreWithin c
     go true e = named (names_in parts) parts c e

@@ -1,5 +1,5 @@
 -- What is used by the words of a command, one use after another, and the rows that hold it.
-use Rattle.tv_cli.proofs.Common.{◌≡◌, ◌||◌, ◌++◌, Bool, false, true≢false, refl, sym, ap, ◌∙◌, List, [], ◌∷◌, map, Option, Some, None, if◌then◌else◌, list_any, bytes_eq, Held, at_row, has_row, with_values, without, more_values, CommandLine, AsWritten, Text, Part, option, name, or_parts}
+use Rattle.tv_cli.proofs.Common.{◌≡◌, ◌||◌, ◌++◌, Bool, false, refl, sym, ap, ◌∙◌, List, [], ◌∷◌, map, Option, Some, None, if◌then◌else◌, list_any, bytes_eq, Held, at_row, has_row, with_values, without, more_values, CommandLine, AsWritten, Text, Part, option, flag, name, codes, is_option, or_parts}
 use Rattle.clap.specs.Walk.{Row}
 
 -- an argument's name with its value
@@ -31,17 +31,33 @@ abbrev pub settle : List Use → Option Use → Option (List Use)
 settle us None = Some us
 settle us (Some u) = noted us u
 
--- the uses after these parts, of a command with these options and with these names still to come
-abbrev pub taken : (Text → Bool) → List Part → List Use → List Text → Option (List Use)
-taken is_known [] us ids = Some us
-taken is_known (option n v ∷ ps) us ids = (if is_known n then (if has n us then None else taken is_known ps (us ++ (n, v) ∷ []) ids) else None)
-taken is_known (name t ∷ ps) us (id ∷ ids) = (if has id us then None else taken is_known ps (us ++ (id, t) ∷ []) ids)
-taken is_known (name t ∷ ps) us [] = None
+-- the options and the flags of a command
+pub record Knows : Type 0 where
+  pub options : List Text
+  pub flags : List Text
 
-abbrev pub after : (Text → Bool) → Option (List Use) → List Text → Option (List Part) → Option (List Use)
-after is_known None ids parts = None
-after is_known (Some us) ids None = None
-after is_known (Some us) ids (Some ps) = taken is_known ps us ids
+abbrev pub has_option : Knows → Text → Bool
+has_option knows n = is_option knows.options n
+
+abbrev pub has_flag : Knows → Text → Bool
+has_flag knows n = is_option knows.flags n
+
+-- the value of a flag that occurs
+abbrev pub flag_value : Text
+flag_value = codes "true"
+
+-- the uses after these parts, of a command with these options and flags and with these names still to come
+abbrev pub taken : Knows → List Part → List Use → List Text → Option (List Use)
+taken knows [] us ids = Some us
+taken knows (option n v ∷ ps) us ids = (if has_option knows n then (if has n us then None else taken knows ps (us ++ (n, v) ∷ []) ids) else None)
+taken knows (flag n ∷ ps) us ids = (if has_flag knows n then (if has n us then None else taken knows ps (us ++ (n, flag_value) ∷ []) ids) else None)
+taken knows (name t ∷ ps) us (id ∷ ids) = (if has id us then None else taken knows ps (us ++ (id, t) ∷ []) ids)
+taken knows (name t ∷ ps) us [] = None
+
+abbrev pub after : Knows → Option (List Use) → List Text → Option (List Part) → Option (List Use)
+after knows None ids parts = None
+after knows (Some us) ids None = None
+after knows (Some us) ids (Some ps) = taken knows ps us ids
 
 -- ---- rows
 
@@ -49,14 +65,14 @@ pub has_row-uses : (id : Text) (us : List Use) → has_row id (rows_of_uses us) 
 has_row-uses id [] = refl
 has_row-uses id (u ∷ us) = ap (λ b. bytes_eq u.0 id || b) (has_row-uses id us)
 
-at_row-missing : (id : Text) (change : Row → List Row) (missing rows : List Row) → has_row id rows ≡ false → at_row id change missing rows ≡ rows ++ missing
+pub at_row-missing : (id : Text) (change : Row → List Row) (missing rows : List Row) → has_row id rows ≡ false → at_row id change missing rows ≡ rows ++ missing
 at_row-missing id change missing [] e = refl
 at_row-missing id change missing (r ∷ rs) e =
     let parts = or_parts _ _ e in
     let other : bytes_eq r.id id ≡ false = parts.0 in
     rw other (ap (λ xs. r ∷ xs) (at_row-missing id change missing rs parts.1))
 
-append_nil : (rows : List Row) → rows ++ [] ≡ rows
+pub append_nil : (rows : List Row) → rows ++ [] ≡ rows
 append_nil [] = refl
 append_nil (r ∷ rs) = ap (λ xs. r ∷ xs) (append_nil rs)
 

@@ -1,7 +1,7 @@
 -- The values that uses give an argument, in order.
-use Rattle.tv_cli.proofs.Common.{◌≡◌, ◌++◌, ◌||◌, Bool, true, false, true≢false, cond, refl, sym, ap, subst, ◌∙◌, List, [], ◌∷◌, Option, Some, None, append_assoc, append-nil, bytes_eq, bytes_eq-Decides, first_of, Range, Text, Part, number_once, text_once, values_in, option, number_or_usual}
+use Rattle.tv_cli.proofs.Common.{◌≡◌, ◌++◌, ◌||◌, Bool, true, false, true≢false, cond, refl, sym, ap, subst, ◌∙◌, List, [], ◌∷◌, Option, Some, None, append_assoc, append-nil, bytes_eq, bytes_eq-Decides, first_of, Range, Text, Part, number_once, text_once, option, flag, name, number_or_usual, one_of}
 use Rattle.clap.specs.Takes.{is_given}
-use Rattle.tv_cli.proofs.Uses.{Use, has, rows_of_uses}
+use Rattle.tv_cli.proofs.Uses.{Use, flag_value, has, rows_of_uses}
 use Rattle.tv_cli.proofs.Arguments.{same}
 
 abbrev pub used_values : Text → List Use → List Text
@@ -33,6 +33,17 @@ first_of-uses id (u ∷ us) = go (bytes_eq u.0 id) refl (first_of-uses id us)
     go : (b : Bool) → bytes_eq u.0 id ≡ b
         → first_of id (rows_of_uses us) ≡ head_value (used_values id us)
         → first_of id (rows_of_uses (u ∷ us)) ≡ head_value (used_values id (u ∷ us))
+    go true e rest = rw e refl
+    go false e rest = rw e rest
+
+pub one_of-uses : (id : Text) (us : List Use)
+    → one_of id (rows_of_uses us) ≡ head_value (used_values id us)
+one_of-uses id [] = refl
+one_of-uses id (u ∷ us) = go (bytes_eq u.0 id) refl (one_of-uses id us)
+  where
+    go : (b : Bool) → bytes_eq u.0 id ≡ b
+        → one_of id (rows_of_uses us) ≡ head_value (used_values id us)
+        → one_of id (rows_of_uses (u ∷ us)) ≡ head_value (used_values id (u ∷ us))
     go true e rest = rw e refl
     go false e rest = rw e rest
 
@@ -132,16 +143,26 @@ twice-more (x ∷ y ∷ vs) ws v e = tt
 pub same_text : (t : Text) → bytes_eq t t ≡ true
 same_text t = (bytes_eq-Decides t t).1 refl
 
+-- the values that parts give an option or a flag, in order
+abbrev pub given_in : Text → List Part → List Text
+given_in wanted [] = []
+given_in wanted (option n v ∷ ps) = cond (bytes_eq n wanted) (v ∷ given_in wanted ps) (given_in wanted ps)
+given_in wanted (flag n ∷ ps) = cond (bytes_eq n wanted) (flag_value ∷ given_in wanted ps) (given_in wanted ps)
+given_in wanted (name t ∷ ps) = given_in wanted ps
+
 -- those of uses, and of parts after them
 abbrev pub all_values : List Use → List Part → Text → List Text
-all_values us ps n = used_values n us ++ values_in n ps
+all_values us ps n = used_values n us ++ given_in n ps
 
--- one more option's use and its part
-pub values-moved : (us : List Use) (n v : Text) (ps : List Part) (m : Text)
-    → all_values (us ++ (n, v) ∷ []) ps m ≡ all_values us (option n v ∷ ps) m
-values-moved us n v ps m = ap (λ vs. vs ++ values_in m ps) (used_values-end m us (n, v)) ∙ append_assoc (used_values m us) (cond (bytes_eq n m) (v ∷ []) []) (values_in m ps) ∙ ap (λ vs. used_values m us ++ vs) (go (bytes_eq n m))
+-- and those with one more use between them
+abbrev pub values_with : List Use → Use → List Part → Text → List Text
+values_with us u ps n = used_values n us ++ cond (bytes_eq u.0 n) (u.1 ∷ given_in n ps) (given_in n ps)
+
+pub values-moved : (us : List Use) (u : Use) (ps : List Part) (m : Text)
+    → all_values (us ++ u ∷ []) ps m ≡ values_with us u ps m
+values-moved us u ps m = ap (λ vs. vs ++ given_in m ps) (used_values-end m us u) ∙ append_assoc (used_values m us) (cond (bytes_eq u.0 m) (u.1 ∷ []) []) (given_in m ps) ∙ ap (λ vs. used_values m us ++ vs) (go (bytes_eq u.0 m))
   where
     go : (b : Bool)
-        → cond b (v ∷ []) [] ++ values_in m ps ≡ cond b (v ∷ values_in m ps) (values_in m ps)
+        → cond b (u.1 ∷ []) [] ++ given_in m ps ≡ cond b (u.1 ∷ given_in m ps) (given_in m ps)
     go true = refl
     go false = refl

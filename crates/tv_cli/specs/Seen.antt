@@ -9,7 +9,7 @@ use Rattle.tv_cli.specs.Words.{Check, Make, Job}
 use Rattle.tv_cli.specs.Words.Job.{check, log, make}
 
 abbrev pub seen_check : declared_check.Check → Check
-seen_check c = record { source = c.source.now; target = c.target.now; bounds = c.bounds; budget = c.budget; workers = c.workers; proof = option_map (λ p. p.now) c.proof }
+seen_check c = record { source = c.source.now; target = c.target.now; bounds = c.bounds; budget = c.budget; workers = c.workers; proof = option_map (λ p. p.now) c.proof; first = c.first }
 
 abbrev pub seen_make : declared_make.Make → Make
 seen_make m = record { seed = m.seed; functions = m.functions; insts = m.insts; bounds = m.bounds; budget = m.budget; workers = m.workers }

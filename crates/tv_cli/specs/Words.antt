@@ -1,5 +1,5 @@
 -- What the arguments of a command line ask for.
-use Rattle.std.specs.Prelude.{ℕ, ◌==◌, ◌&&◌, List, [], ◌∷◌, length, map, Option, Some, None, option_map, Bool, true, codes, if◌then◌else◌, nat_lt, nat_le}
+use Rattle.std.specs.Prelude.{ℕ, zero, suc, ◌==◌, ◌&&◌, List, [], ◌∷◌, length, map, count_by, Option, Some, None, option_map, Bool, true, false, codes, if◌then◌else◌, nat_lt, nat_le}
 use Rattle.std.specs.List.{list_all, list_any, before_first, after_first}
 use Rattle.std.specs.Char.{digit_value}
 use Rattle.std.specs.Str.{bytes_eq}
@@ -12,7 +12,7 @@ use Rattle.tv_cli.specs.declared.number.Range.{Range}
 abbrev pub Text : Type 0
 Text = List ℕ
 
--- two files, what their pairs are judged within, and the file for the proof
+-- two files, what their pairs are judged within, the file for the proof, and whether the report ends at the first incorrect pair
 pub record Check : Type 0 where
   pub source : Text
   pub target : Text
@@ -20,6 +20,7 @@ pub record Check : Type 0 where
   pub budget : Budget
   pub workers : ℕ
   pub proof : Option Text
+  pub first : Bool
 
 -- the pair of modules of a seed, what their pairs are judged within, and by how many workers
 pub record Make : Type 0 where
@@ -43,7 +44,7 @@ pub data Kind : Type 0 where
   end : Kind
   -- `--name=value`, cut at its first `=`
   attached : Text → Text → Kind
-  -- `--name`, whose value is the next argument
+  -- `--name`: a flag, or an option whose value is the next argument
   separate : Text → Kind
   -- any other argument of two or more characters that begins with `-`
   dashed : Kind
@@ -65,10 +66,19 @@ kind_of (b ∷ c ∷ word) = (if b == 45 then (if c == 45 then kind_behind word 
 
 -- ---- what the arguments after the command are
 
--- an option with its value, or a name
+-- an option with its value, a flag, or a name
 pub data Part : Type 0 where
   option : Text → Text → Part
+  flag : Text → Part
   name : Text → Part
+
+-- the flags, which have no value
+abbrev pub flags : List Text
+flags = codes "first" ∷ []
+
+-- the text is one of these
+abbrev pub is_option : List Text → Text → Bool
+is_option options text = list_any (λ known. bytes_eq known text) options
 
 -- one more part at the start
 abbrev pub with_part : Part → Option (List Part) → Option (List Part)
@@ -78,7 +88,7 @@ with_part part parts = option_map (λ ps. part ∷ ps) parts
 abbrev pub parts_from : Text → List Text → Option (List Part) → (Text → Option (List Part)) → Kind → Option (List Part)
 parts_from word rest parts awaited end = Some (map name rest)
 parts_from word rest parts awaited (attached option_name value) = with_part (option option_name value) parts
-parts_from word rest parts awaited (separate option_name) = awaited option_name
+parts_from word rest parts awaited (separate option_name) = (if is_option flags option_name then with_part (flag option_name) parts else awaited option_name)
 parts_from word rest parts awaited dashed = None
 parts_from word rest parts awaited plain = with_part (name word) parts
 
@@ -100,13 +110,19 @@ parts_of (Some option_name) (word ∷ rest) = value_from option_name word (parts
 abbrev pub names_in : List Part → List Text
 names_in [] = []
 names_in (option option_name value ∷ parts) = names_in parts
+names_in (flag flag_name ∷ parts) = names_in parts
 names_in (name text ∷ parts) = text ∷ names_in parts
 
 -- the values of an option, in order
 abbrev pub values_in : Text → List Part → List Text
 values_in wanted [] = []
 values_in wanted (option option_name value ∷ parts) = (if bytes_eq option_name wanted then value ∷ values_in wanted parts else values_in wanted parts)
+values_in wanted (flag flag_name ∷ parts) = values_in wanted parts
 values_in wanted (name text ∷ parts) = values_in wanted parts
+
+abbrev pub is_flag : Text → Part → Bool
+is_flag wanted (flag flag_name) = bytes_eq flag_name wanted
+is_flag wanted _ = false
 
 -- the number that a text is in base 10, digits after at most one plus, if it is in the range
 abbrev pub number_within : Range → Text → Option ℕ
@@ -127,6 +143,12 @@ text_once [] = Some None
 text_once (value ∷ []) = Some (Some value)
 text_once (value ∷ other ∷ values) = None
 
+-- and so does a flag, by how often it occurs: it says whether it does
+abbrev pub flag_once : ℕ → Option Bool
+flag_once zero = Some false
+flag_once (suc zero) = Some true
+flag_once (suc (suc more)) = None
+
 -- the options of `check`
 abbrev pub check_options : List Text
 check_options = codes "turns" ∷ codes "blocks" ∷ codes "bytes" ∷ codes "rounds" ∷ codes "conflicts" ∷ codes "weight" ∷ codes "workers" ∷ codes "proof" ∷ []
@@ -135,14 +157,12 @@ check_options = codes "turns" ∷ codes "blocks" ∷ codes "bytes" ∷ codes "ro
 abbrev pub make_options : List Text
 make_options = codes "turns" ∷ codes "blocks" ∷ codes "bytes" ∷ codes "rounds" ∷ codes "conflicts" ∷ codes "weight" ∷ codes "workers" ∷ codes "seed" ∷ codes "functions" ∷ codes "insts" ∷ []
 
-abbrev pub is_option : List Text → Text → Bool
-is_option options text = list_any (λ known. bytes_eq known text) options
-
--- each option is one of these
-abbrev pub are_known : List Text → List Part → Bool
-are_known options [] = true
-are_known options (option option_name value ∷ parts) = is_option options option_name && are_known options parts
-are_known options (name text ∷ parts) = are_known options parts
+-- each option is one of these, and each flag one of those
+abbrev pub are_known : List Text → List Text → List Part → Bool
+are_known options known_flags [] = true
+are_known options known_flags (option option_name value ∷ parts) = is_option options option_name && are_known options known_flags parts
+are_known options known_flags (flag flag_name ∷ parts) = is_option known_flags flag_name && are_known options known_flags parts
+are_known options known_flags (name text ∷ parts) = are_known options known_flags parts
 
 abbrev pub range : ℕ → ℕ → ℕ → Range
 range least most usual = record { least = least; most = most; usual = usual }
@@ -155,9 +175,10 @@ abbrev pub budget_with : Option ℕ → Option ℕ → Option ℕ → Option Bud
 budget_with (Some rounds) (Some conflicts) (Some weight) = Some (record { rounds = rounds; conflicts = conflicts; weight = weight })
 budget_with _ _ _ = None
 
-abbrev pub check_with : Text → Text → Option Bounds → Option Budget → Option ℕ → Option (Option Text) → Option Check
-check_with source target (Some bounds) (Some budget) (Some workers) (Some proof) = Some (record { source = source; target = target; bounds = bounds; budget = budget; workers = workers; proof = proof })
-check_with source target _ _ _ _ = None
+abbrev pub check_with : Text → Text → Option Bounds → Option Budget → Option ℕ → Option (Option Text) → Option Bool → Option Check
+check_with source target (Some bounds) (Some budget) (Some workers) (Some proof) (Some first) =
+    Some (record { source = source; target = target; bounds = bounds; budget = budget; workers = workers; proof = proof; first = first })
+check_with source target _ _ _ _ _ = None
 
 -- backward jumps; given blocks; the greatest size of a given block
 abbrev pub turns_range : Range
@@ -204,16 +225,17 @@ budget_of parts = budget_with (number_of (codes "rounds") rounds_range parts) (n
 abbrev pub workers_of : List Part → Option ℕ
 workers_of parts = number_of (codes "workers") workers_range parts
 
--- two names, and each option at most once, with a number of its range or a text
+-- two names, each option at most once, with a number of its range or a text, and `--first` at most once
 abbrev pub check_named : List Text → List Part → Option Check
-check_named (source ∷ target ∷ []) parts = check_with source target (bounds_of parts) (budget_of parts) (workers_of parts) (text_once (values_in (codes "proof") parts))
+check_named (source ∷ target ∷ []) parts =
+    check_with source target (bounds_of parts) (budget_of parts) (workers_of parts) (text_once (values_in (codes "proof") parts)) (flag_once (count_by (is_flag (codes "first")) parts))
 check_named _ parts = None
 
 abbrev pub check_in_parts : Option (List Part) → Option Check
-check_in_parts (Some parts) = (if are_known check_options parts then check_named (names_in parts) parts else None)
+check_in_parts (Some parts) = (if are_known check_options flags parts then check_named (names_in parts) parts else None)
 check_in_parts None = None
 
--- one name and no option
+-- one name, no option and no flag
 abbrev pub file_in_parts : Option (List Part) → Option Text
 file_in_parts (Some (name file ∷ [])) = Some file
 file_in_parts _ = None
@@ -231,7 +253,7 @@ make_named [] parts =
 make_named _ parts = None
 
 abbrev pub make_in_parts : Option (List Part) → Option Make
-make_in_parts (Some parts) = (if are_known make_options parts then make_named (names_in parts) parts else None)
+make_in_parts (Some parts) = (if are_known make_options [] parts then make_named (names_in parts) parts else None)
 make_in_parts None = None
 
 -- the job that the arguments are: the program's name, the command, and its parts

@@ -1,7 +1,7 @@
 ghost use Rattle.std.specs.Prelude.{◌≡◌, ◌↔◌, IfOk, IsTrue, false};
 ghost use Rattle.clap.specs.Words.{app_of, kind_of, rule_of};
 ghost use Rattle.clap.specs.declared.builder.command.Command.TheViews.{out-Command};
-ghost use Rattle.tv_cli.specs.Walked.{tv_app, check_app, log_app, make_app, bounded_app, limited_app, name_rule, option_rule};
+ghost use Rattle.tv_cli.specs.Walked.{tv_app, check_app, log_app, make_app, bounded_app, limited_app, flag_rule, name_rule, option_rule};
 
 use clap::error::ErrorKind;
 use clap::{Arg, ArgAction, Command, Error};
@@ -38,7 +38,8 @@ fn check_command<'a>(alloc: Global) -> Result<Command<'a>, AllocError>
         .arg(option(alloc, "conflicts"))?
         .arg(option(alloc, "weight"))?
         .arg(option(alloc, "workers"))?
-        .arg(option(alloc, "proof"))?;
+        .arg(option(alloc, "proof"))?
+        .arg(flag(alloc, "first"))?;
     Ok(check)
 }
 
@@ -95,6 +96,14 @@ pub fn option<'a>(alloc: Global, id: &'a str) -> Arg<'a>
     ensures local { result.global ≡ false }
 {
     Arg::new(alloc, id).long(id).action(ArgAction::Set)
+}
+
+// A flag `--id`, which has no value.
+fn flag<'a>(alloc: Global, id: &'a str) -> Arg<'a>
+    ensures rule { rule_of result ≡ flag_rule id.entry.now }
+    ensures local { result.global ≡ false }
+{
+    Arg::new(alloc, id).long(id).action(ArgAction::SetTrue)
 }
 
 /// Whether a walk ended because memory ran out.

@@ -2,7 +2,7 @@ ghost use Rattle.std.specs.Prelude.{◌≡◌, ◌≤◌, ◌<◌, ◌^◌, IfOk
 ghost use Rattle.clap.specs.Words.{first_of, found_of, rows_of};
 ghost use Rattle.points.specs.Range.{AreInRange};
 ghost use Rattle.tv_cli.specs.Words.{job_of, range, workers_range};
-ghost use Rattle.tv_cli.specs.Walked.{bounds_in_rows, budget_in_rows, check_in_rows, job_in_rows, job_walked, make_in_rows, number_or_usual};
+ghost use Rattle.tv_cli.specs.Walked.{bounds_in_rows, budget_in_rows, check_in_rows, is_set, job_in_rows, job_walked, make_in_rows, number_or_usual};
 ghost use Rattle.tv_cli.specs.Seen.{seen, seen_check, seen_make, IsInRange};
 
 use crate::command::{command, is_memory};
@@ -23,8 +23,8 @@ pub enum Job<'w> {
     Make(Make),
 }
 
-/// The files that are checked, what their pairs are judged within, how many workers judge them, and the
-/// file that the proof is written to, if any.
+/// The files that are checked, what their pairs are judged within, how many workers judge them, the
+/// file that the proof is written to, if any, and whether the report ends at its first incorrect row.
 #[derive(Drop)]
 pub struct Check<'w> {
     pub source: &'w str,
@@ -33,6 +33,8 @@ pub struct Check<'w> {
     pub budget: Budget,
     pub workers: u64,
     pub proof: Option<&'w str>,
+    /// `--first`: no row after the first incorrect one.
+    pub first: bool,
 }
 
 /// A pair of modules that is made from a seed, below 2^31: how many functions it has, at most 4,096,
@@ -122,6 +124,7 @@ fn check_in<'w>(matches: &ArgMatches<'w>) -> Option<Check<'w>>
         return None;
     };
     let proof = matches.get_str("proof");
+    let first = is_set(matches, "first");
     Some(Check {
         source,
         target,
@@ -129,7 +132,15 @@ fn check_in<'w>(matches: &ArgMatches<'w>) -> Option<Check<'w>>
         budget,
         workers,
         proof,
+        first,
     })
+}
+
+// Whether a flag is set.
+fn is_set(matches: &ArgMatches<'_>, name: &str) -> bool
+    ensures { result ≡ is_set name.now (rows_of (found_of matches.now)) }
+{
+    matches.get_one::<bool>(name).unwrap_or(false)
 }
 
 // What the matches of `make` ask for.

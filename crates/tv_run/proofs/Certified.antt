@@ -1,5 +1,5 @@
 -- The parts of a report's proof file: their names are printed, their logs refute their clauses, and each decided row has one.
-use Rattle.tv_run.proofs.Common.{◌≡◌, ℕ, All, List, [], ◌∷◌, ◌++◌, map, Bool, true, false, Option, Some, None, Result, refl, sym, ap, subst, if◌then◌else◌, is_some, AllByRecursion, cons_option, filter_map, All-append, All-cons, All-nil, Name, Function, Refused, Entry, Module, Bounds, Budget, Verdict, Functions, Judged, Finding, Row, name_text, AreRows, AreSourceRows, extra_row, extra_rows, function_named, Part, part_of, IsCertified, IsReadName, certified, decided, left_after, parts_of, row_parts, AreAnswers, verdicts_answered, verdicts_in, verdicts_of, entry_names, part_heading, row_heading}
+use Rattle.tv_run.proofs.Common.{◌≡◌, ℕ, All, List, [], ◌∷◌, ◌++◌, map, Bool, true, false, Option, Some, None, Result, refl, sym, ap, subst, if◌then◌else◌, is_some, cond, list_any, AllByRecursion, cons_option, filter_map, All-append, All-cons, All-nil, Name, Function, Refused, Entry, Module, Bounds, Budget, Verdict, Functions, Judged, Finding, Row, name_text, AreRows, ends, AreSourceRows, after_row, extra_row, extra_rows, function_named, Part, part_of, IsCertified, IsReadName, certified, decided, left_after, parts_of, row_parts, AreAnswers, verdicts_answered, verdicts_in, verdicts_of, entry_names, part_heading, row_heading}
 use Rattle.clause_log.specs.declared.step.Cert.{Cert}
 use Rattle.verdicts.specs.declared.verdict.Kept.{Kept}
 use Rattle.verdicts.specs.declared.verdict.Verdict.TheVariants as verdict
@@ -16,11 +16,13 @@ all_of P (x ∷ xs) all = All-cons P x xs all.0 (all_of P xs all.1)
 abbrev Named : Row → Type 0
 Named row = IsReadName row.name
 
-source_named : (may : Functions → Verdict → Type 0) (bounds : Bounds) (targets sources : List Entry) (rows : List Row) → AreSourceRows may bounds targets sources rows → AllByRecursion IsReadName (entry_names sources) → All Named rows
-source_named may bounds targets [] [] are all = All-nil Named
-source_named may bounds targets [] (r ∷ rs) are all = absurd are
-source_named may bounds targets (s ∷ ss) [] are all = absurd are
-source_named may bounds targets (s ∷ ss) (r ∷ rs) are all = All-cons Named r rs (subst IsReadName (sym are.0.name) all.0) (source_named may bounds targets ss rs are.1 all.1)
+source_named : (first : Bool) (may : Functions → Verdict → Type 0) (bounds : Bounds) (targets sources : List Entry) (rows : List Row) → AreSourceRows first may bounds targets sources rows → AllByRecursion IsReadName (entry_names sources) → All Named rows
+source_named first may bounds targets [] [] are all = All-nil Named
+source_named first may bounds targets [] (r ∷ rs) are all = absurd are
+source_named first may bounds targets (s ∷ ss) [] are all = absurd are
+source_named first may bounds targets (s ∷ ss) (r ∷ rs) are all =
+    All-cons Named r rs (subst IsReadName (sym are.0.name) all.0)
+    (after_row (All Named) (ends first r) rs (AreSourceRows first may bounds targets ss rs) (All-nil Named) (λ goes. source_named first may bounds targets ss rs goes all.1) are.1)
 
 extra_named : (sources targets : List Entry) → AllByRecursion IsReadName (entry_names targets) → All Named (extra_rows sources targets)
 extra_named sources [] all = All-nil Named
@@ -30,11 +32,16 @@ extra_named sources (t ∷ ts) all = go (function_named sources t.name) (extra_n
     go (Some f) rest = rest
     go None rest = All-cons Named (extra_row t) (extra_rows sources ts) all.0 rest
 
-pub rows_named : (may : Functions → Verdict → Type 0) (bounds : Bounds) (source target : Module) (rows : List Row) → AreRows may bounds source target rows
+unless_ended : (ended : Bool) (sources targets : List Entry) → AllByRecursion IsReadName (entry_names targets) → All Named (cond ended [] (extra_rows sources targets))
+unless_ended true sources targets all = All-nil Named
+unless_ended false sources targets all = extra_named sources targets all
+
+pub rows_named : (first : Bool) (may : Functions → Verdict → Type 0) (bounds : Bounds) (source target : Module) (rows : List Row) → AreRows first may bounds source target rows
     → AllByRecursion IsReadName (entry_names source.entries) → AllByRecursion IsReadName (entry_names target.entries) → All (λ (row : Row). IsReadName row.name) rows
-rows_named may bounds source target rows are s t =
+rows_named first may bounds source target rows are s t =
     subst (λ (rs : List Row). All Named rs) (sym are.all)
-    (All-append Named are.judged (extra_rows source.entries target.entries) (source_named may bounds target.entries source.entries are.judged are.each s) (extra_named source.entries target.entries t))
+    (All-append Named are.judged (cond (list_any (ends first) are.judged) [] (extra_rows source.entries target.entries)) (source_named first may bounds target.entries source.entries are.judged are.each s)
+    (unless_ended (list_any (ends first) are.judged) source.entries target.entries t))
 
 -- ---- certificates
 

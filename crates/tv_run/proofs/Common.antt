@@ -21,7 +21,7 @@ pub use Rattle.ir_tree.specs.declared.module.Refused.{Refused}
 pub use Rattle.ir_tree.specs.declared.name.Name.{Name}
 pub use Rattle.ir_tree.specs.declared.name.Name.TheVariants.{Number, Word}
 pub use Rattle.ir_tree.specs.declared.tree.Function.{Function}
-pub use Rattle.module_rows.proofs.Answered.{verdicts_with_extra}
+pub use Rattle.module_rows.proofs.Answered.{all_are_first, verdicts_with_extra}
 pub use Rattle.module_rows.proofs.OwnAnswers.{rows_have_answers}
 pub use Rattle.module_rows.specs.Judging.{may_answer, judged_pairs, AreAnswers, ReportOwnAnswers, verdicts_answered, verdicts_in, verdicts_of}
 pub use Rattle.module_rows.specs.Searching.{entry_names}
@@ -33,11 +33,13 @@ pub use Rattle.points.specs.declared.point.Point.{Point}
 pub use Rattle.proof_files.specs.Parts.{IsReadName, IsCertified, certified, decided, left_after, parts_of, row_parts}
 pub use Rattle.proof_text.proofs.Splits.{first_or_later, parted}
 pub use Rattle.proof_text.proofs.Top.{Free, same_lines, AreFree}
-pub use Rattle.proof_text.specs.Format.{IsPrintedNumber, IsProof, ended, part_of}
+pub use Rattle.proof_text.specs.Format.{IsPrintedNumber, IsProof, ended, part_of, proof_with}
 pub use Rattle.proof_text.specs.declared.part.Part.{Part}
-pub use Rattle.report.specs.Rows.{function_named, IsJudged, IsCompared, IsFinding, IsRow, AreSourceRows, AreRows, extra_row, extra_rows, RowsAreOne}
+pub use Rattle.proof_text.specs.declared.part.Proof.{Proof}
+pub use Rattle.report.specs.Rows.{function_named, IsJudged, IsCompared, IsFinding, IsRow, ends, GoesOn, AreSourceRows, AreRows, extra_row, extra_rows, RowsAreOne, first_rows, FirstRowsAreTheFirst}
+pub use Rattle.report.proofs.Ended.{after_row, goes_weaker, rows_whole, whole_is}
 pub use Rattle.report.specs.Status.{has_some, is_of_class, status_of, count}
-pub use Rattle.report.specs.Text.{bounds_text, budget_text, cause_text, counted, finding_text, first_line, judged_counts, last_line, newline, other_counts, reason_text, refused_text, report_text, row_text, shown_lines, side_text, address_text, arg_lines, block_line, block_lines, byte_text, bytes_line, choice_lines, contents_line, numbered_line, outcome_lines, point_lines, pointer_text, returned_text, sentence, spaced_byte, value_text, summary_text}
+pub use Rattle.report.specs.Text.{bounds_text, budget_text, cause_text, counted, finding_text, first_line, first_word, judged_counts, last_line, newline, other_counts, reason_text, refused_text, report_text, row_text, shown_lines, side_text, address_text, arg_lines, block_line, block_lines, byte_text, bytes_line, choice_lines, contents_line, numbered_line, outcome_lines, point_lines, pointer_text, returned_text, sentence, spaced_byte, value_text, summary_text}
 pub use Rattle.report.specs.declared.row.Finding.{Finding}
 pub use Rattle.report.specs.declared.row.Row.{Row}
 pub use Rattle.report.specs.declared.row.Side.{Side}
@@ -56,13 +58,13 @@ pub use Rattle.verdicts.specs.declared.verdict.Cause.{Cause}
 pub use Rattle.verdicts.specs.declared.verdict.Cause.TheVariants.{Weight, Rounds, Conflicts}
 pub use Rattle.verdicts.specs.declared.verdict.Shown.{Shown}
 pub use Rattle.verdicts.specs.declared.verdict.Verdict.{Verdict}
-pub use Rattle.tv_run.specs.Answers.{IsFaultOf, IsSent, AreParts, IsLogStop, IsNoProof, LoadsProof, AreModules, FitsIn, HasReport, HoldsText, IsDelivered, IsProofAsked, IsReportOf, IsReportOn, CountsStop, IsParsed}
-pub use Rattle.tv_run.specs.Files.{HasModule, HasFault, WhereKnown, HasParts, IsLonger}
+pub use Rattle.tv_run.specs.Answers.{IsFaultOf, IsSent, IsKnownProof, IsLogStop, IsNoProof, LoadsProof, AreModules, FitsIn, HasReport, HoldsText, IsDelivered, IsProofAsked, IsReportOf, IsReportOn, CountsStop, IsParsed}
+pub use Rattle.tv_run.specs.Files.{HasModule, HasFault, WhereKnown, HasProof, IsLonger}
 pub use Rattle.tv_run.specs.Jobs.{WhereChecked, FileChanges, ProofChanges, job_in}
-pub use Rattle.tv_run.specs.Laws.{FileReportsAreSound, ReportsAreSound, FaultsAreOne, ModulesHaveNoFault, FileReportsAreDefined, PutProofsAreVerified, ReportsAreDefined, ReportsAreOne}
+pub use Rattle.tv_run.specs.Laws.{FileReportsAreSound, ReportsAreSound, FaultsAreOne, ModulesHaveNoFault, FileReportsAreDefined, FirstReportsHaveTheFirstRows, PutProofsAreVerified, ReportsAreDefined, ReportsAreOne}
 pub use Rattle.tv_run.specs.Makes.{IsReadBack, MadePartlyWritten, MadeWritten, SaysMade, make_line}
 pub use Rattle.tv_run.specs.OneReading.{IsReadRow, HasPosition, IsSameFinding, SaysTheSame, TextsHaveOneListOfRows}
-pub use Rattle.tv_run.specs.Reports.{part_heading, row_heading, IsTheDefinedReport, IsUnfinished, PartlyWritten, WritesDefinedReport, HoldsProof, Written, IsDefinedReport, IsReport, Reports}
+pub use Rattle.tv_run.specs.Reports.{head_of, part_heading, row_heading, IsTheDefinedReport, IsUnfinished, PartlyWritten, WritesDefinedReport, HoldsProof, Written, IsDefinedReport, IsReport, Reports}
 pub use Rattle.tv_run.specs.Sound.{HasFunction, HoldsThroughout, IsPairNamed, IsRefined, HasVerdict, IsSound, MeansRefinement, SaysRefinement, FilesRefine, PartlyMeansRefinement, WritesSound}
 pub use Rattle.tv_run.specs.Stops.{HasTrouble, IsBeforeTarget, trouble_status, HasLogTrouble, log_trouble_status, HasCause, IsNotPut, Refuses, RefusesJob, stop_status, WritesLine}
 pub use Rattle.module_files.specs.declared.stop.Stop.{Stop}

@@ -1,5 +1,5 @@
 -- What the check of a proof file writes, and that a proof file is checked.
-use Rattle.tv_run.proofs.Common.{Vec, ◌≡◌, ◌≤◌, ◌⊎◌, ℕ, arith, List, length, Option, Some, refl, sym, ap, subst, ◌∙◌, inl, inr, Rose, Files, ShelfState, SinkState, Part, IsProof, Text, log, AreParts, IsLogStop, IsNoProof, IsSent, LoadsProof, HasParts, WhereKnown, HasLogTrouble, log_trouble_status}
+use Rattle.tv_run.proofs.Common.{Vec, ◌≡◌, ◌≤◌, ◌⊎◌, ℕ, arith, List, length, Option, Some, refl, sym, ap, subst, ◌∙◌, inl, inr, Rose, Files, ShelfState, SinkState, Proof, IsProof, Text, log, IsKnownProof, IsLogStop, IsNoProof, IsSent, LoadsProof, HasProof, WhereKnown, HasLogTrouble, log_trouble_status}
 use Rattle.tv_run.specs.declared.stop.LogTrouble.{LogTrouble}
 use Rattle.tv_run.specs.declared.stop.LogTrouble.TheVariants as log_trouble
 use Rattle.tv_run.specs.declared.stop.LogStop.{LogStop}
@@ -46,17 +46,17 @@ module _ (known : Option Files) (name : Text) (status result : ℕ) (text : List
 
 -- ---- a proof file is checked
 
-stops_at : (files : Files) (name : Text) (parts : List Part) (old new : ShelfState) (t : LogTrouble) → old.files ≡ Some files → HasParts (files name) parts → HasLogTrouble old new name t → log_trouble_status t ≡ 5
-stops_at files name parts old new log_trouble.CannotRead known has cause = refl
-stops_at files name parts old new log_trouble.TooLong known has cause =
+stops_at : (files : Files) (name : Text) (proof : Proof) (old new : ShelfState) (t : LogTrouble) → old.files ≡ Some files → HasProof (files name) proof → HasLogTrouble old new name t → log_trouble_status t ≡ 5
+stops_at files name proof old new log_trouble.CannotRead known has cause = refl
+stops_at files name proof old new log_trouble.TooLong known has cause =
     let long = cause.1 files known in
     let e : long.text ≡ has.text = same_text (files name) long.text has.text long.there has.there in
     absurd (omega (arith, long.holds, has.holds.0, ap (λ (t : List ℕ). length t) e))
-stops_at files name parts old new (log_trouble.Line line) known has cause =
+stops_at files name proof old new (log_trouble.Line line) known has cause =
     let wrong = cause files known in
     let e : has.text ≡ wrong.text = same_text (files name) has.text wrong.text has.there wrong.there in
-    absurd (wrong.holds.1.1 parts (subst (λ (t : List ℕ). IsProof t parts) e has.holds.1))
+    absurd (wrong.holds.1.1 proof (subst (λ (t : List ℕ). IsProof t proof) e has.holds.1))
 
-pub complete_log : (name : Text) (old new : ShelfState) (t : LogTrouble) (result : ℕ) → HasLogTrouble old new name t → result ≡ log_trouble_status t → AreParts old.files (Some (log name)) → (result ≤ 1) ⊎ (result ≡ 5) ⊎ (result ≡ 7) ⊎ (result ≡ 8)
+pub complete_log : (name : Text) (old new : ShelfState) (t : LogTrouble) (result : ℕ) → HasLogTrouble old new name t → result ≡ log_trouble_status t → IsKnownProof old.files (Some (log name)) → (result ≤ 1) ⊎ (result ≡ 5) ⊎ (result ≡ 7) ⊎ (result ≡ 8)
 complete_log name old new t result cause status are =
-    inr (inl (status ∙ stops_at are.files are.name are.parts old new t are.files_are are.parts_are (subst (λ (n : Text). HasLogTrouble old new n t) (log_is name are.name are.job_is) cause)))
+    inr (inl (status ∙ stops_at are.files are.name are.proof old new t are.files_are are.proof_is (subst (λ (n : Text). HasLogTrouble old new n t) (log_is name are.name are.job_is) cause)))

@@ -1,5 +1,5 @@
 -- The first lines of the rows of a report's text.
-use Rattle.tv_run.proofs.Common.{ℕ, ◌≡◌, ◌≢◌, ◌<◌, ◌/◌, ◌%◌, ◌&&◌, arith, Bool, true, false, cond, not, All, List, [], ◌∷◌, ◌++◌, codes, map, append_assoc, append-nil, refl, sym, ap, subst, ◌∙◌, true≢false, nat_lt, decimal, flat_map, list_all, filter, nat_tests, All-contains, All-head, All-tail, Name, Number, Word, Reason, Refused, escaped, hex_byte, hex_digit, is_bare, is_digit, is_name_byte, is_plain, name_text, quoted, Bounds, Budget, Cause, Weight, Rounds, Conflicts, Side, Finding, Row, count, bounds_text, budget_text, cause_text, counted, finding_text, first_line, judged_counts, last_line, newline, other_counts, reason_text, refused_text, report_text, row_text, shown_lines, side_text, IsReadRow, IsReadName, Free, same_lines, and_parts}
+use Rattle.tv_run.proofs.Common.{ℕ, ◌≡◌, ◌≢◌, ◌<◌, ◌/◌, ◌%◌, ◌&&◌, arith, Bool, true, false, cond, not, All, List, [], ◌∷◌, ◌++◌, codes, map, append_assoc, append-nil, refl, sym, ap, subst, ◌∙◌, true≢false, nat_lt, decimal, flat_map, list_all, filter, nat_tests, All-contains, All-head, All-tail, Name, Number, Word, Reason, Refused, escaped, hex_byte, hex_digit, is_bare, is_digit, is_name_byte, is_plain, name_text, quoted, Bounds, Budget, Cause, Weight, Rounds, Conflicts, Side, Finding, Row, count, bounds_text, budget_text, cause_text, counted, finding_text, first_line, first_word, judged_counts, last_line, newline, other_counts, reason_text, refused_text, report_text, row_text, shown_lines, side_text, IsReadRow, IsReadName, Free, same_lines, and_parts}
 use Rattle.ir_tree.specs.declared.module.Reason.TheVariants as reason
 use Rattle.report.specs.declared.row.Side.TheVariants as side
 use Rattle.report.specs.declared.row.Finding.TheVariants as finding
@@ -163,8 +163,14 @@ module _ (bounds : Bounds) (budget : Budget) where
       (without_append 10 (counted (codes " rounds ") budget.rounds) (counted (codes " conflicts ") budget.conflicts) (free_counted (codes " rounds ") budget.rounds (free_known (codes " rounds ") refl)) (free_counted (codes " conflicts ") budget.conflicts (free_known (codes " conflicts ") refl)))
       (free_counted (codes " weight ") budget.weight (free_known (codes " weight ") refl))
 
-  first_marked : HasMarked [] (first_line bounds budget)
-  first_marked = unmarked_line (bounds_text bounds ++ budget_text budget) (without_append 10 (bounds_text bounds) (budget_text budget) free_bounds free_budget) refl
+  free_word : (first : Bool) → Free (first_word first)
+  free_word true = free_known (codes " first") refl
+  free_word false = free_known [] refl
+
+  first_marked : (first : Bool) → HasMarked [] (first_line bounds budget first)
+  first_marked first =
+      unmarked_line (bounds_text bounds ++ budget_text budget ++ first_word first)
+      (without_append 10 (bounds_text bounds ++ budget_text budget) (first_word first) (without_append 10 (bounds_text bounds) (budget_text budget) free_bounds free_budget) (free_word first)) refl
 
 module _ (rows : List Row) where
   free_judged : Free (judged_counts rows)
@@ -184,17 +190,17 @@ module _ (rows : List Row) where
   last_marked : HasMarked [] (last_line rows)
   last_marked = unmarked_line (judged_counts rows ++ other_counts rows) (without_append 10 (judged_counts rows) (other_counts rows) free_judged free_other) refl
 
-report_marked : (bounds : Bounds) (budget : Budget) (rows : List Row) → All IsReadRow rows → HasMarked (map first_of_row rows) (report_text bounds budget rows)
-report_marked bounds budget rows read =
-    subst (λ (marked : List (List ℕ)). HasMarked marked (report_text bounds budget rows)) (append-nil (map first_of_row rows))
-    (marked_append (map first_of_row rows) [] (first_line bounds budget ++ flat_map row_text rows) (last_line rows)
-    (marked_append [] (map first_of_row rows) (first_line bounds budget) (flat_map row_text rows) (first_marked bounds budget) (rows_marked rows read))
+report_marked : (bounds : Bounds) (budget : Budget) (first : Bool) (rows : List Row) → All IsReadRow rows → HasMarked (map first_of_row rows) (report_text bounds budget first rows)
+report_marked bounds budget first rows read =
+    subst (λ (marked : List (List ℕ)). HasMarked marked (report_text bounds budget first rows)) (append-nil (map first_of_row rows))
+    (marked_append (map first_of_row rows) [] (first_line bounds budget first ++ flat_map row_text rows) (last_line rows)
+    (marked_append [] (map first_of_row rows) (first_line bounds budget first) (flat_map row_text rows) (first_marked bounds budget first) (rows_marked rows read))
     (last_marked rows))
 
 -- reports with one text have the same first lines of rows
-pub same_firsts : (bounds other_bounds : Bounds) (budget other_budget : Budget) (rows others : List Row) → All IsReadRow rows → All IsReadRow others → report_text bounds budget rows ≡ report_text other_bounds other_budget others
+pub same_firsts : (bounds other_bounds : Bounds) (budget other_budget : Budget) (first other_first : Bool) (rows others : List Row) → All IsReadRow rows → All IsReadRow others → report_text bounds budget first rows ≡ report_text other_bounds other_budget other_first others
     → map first_of_row rows ≡ map first_of_row others
-same_firsts bounds other_bounds budget other_budget rows others read other_read e =
-    let a = report_marked bounds budget rows read in
-    let b = report_marked other_bounds other_budget others other_read in
+same_firsts bounds other_bounds budget other_budget first other_first rows others read other_read e =
+    let a = report_marked bounds budget first rows read in
+    let b = report_marked other_bounds other_budget other_first others other_read in
     sym a.are ∙ ap (filter is_marked) (same_lines a.lines b.lines a.free b.free (sym a.is ∙ e ∙ b.is)) ∙ b.are

@@ -270,5 +270,5 @@ same_rows (r ∷ rows) (o ∷ others) read other_read e =
     (same_row r o (All-head IsReadRow r rows read) (All-head IsReadRow o others other_read) first, same_rows rows others (All-tail IsReadRow r rows read) (All-tail IsReadRow o others other_read) rest)
 
 pub texts_have_one_list_of_rows : TextsHaveOneListOfRows
-texts_have_one_list_of_rows bounds other_bounds budget other_budget rows others read other_read e =
-    same_rows rows others read other_read (same_firsts bounds other_bounds budget other_budget rows others read other_read e)
+texts_have_one_list_of_rows bounds other_bounds budget other_budget first other_first rows others read other_read e =
+    same_rows rows others read other_read (same_firsts bounds other_bounds budget other_budget first other_first rows others read other_read e)

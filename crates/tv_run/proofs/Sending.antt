@@ -1,11 +1,11 @@
 -- What the delivery of a report says of the check of the command line.
-use Rattle.tv_run.proofs.Common.{Vec, ◌≡◌, ◌≤◌, ◌⊎◌, ℕ, arith, List, Option, Some, None, sym, subst, inl, inr, ◌∙◌, Rose, Files, ShelfState, SinkState, AreInRange, Judged, Row, Text, Check, HasReport, HoldsText, IsDelivered, IsProofAsked, IsSent, WhereKnown, FileReportsAreDefined, FileReportsAreSound, HoldsProof, IsUnfinished, PartlyWritten, WritesDefinedReport, Written, FilesRefine, PartlyMeansRefinement, WritesSound, IsNotPut}
+use Rattle.tv_run.proofs.Common.{Vec, ◌≡◌, ◌≤◌, ◌⊎◌, ℕ, arith, List, Option, Some, None, sym, subst, inl, inr, ◌∙◌, Rose, Files, ShelfState, SinkState, AreInRange, Judged, Row, Text, Bounds, Budget, Check, HasReport, HoldsText, IsDelivered, IsProofAsked, IsSent, WhereKnown, FileReportsAreDefined, FileReportsAreSound, HoldsProof, IsUnfinished, PartlyWritten, WritesDefinedReport, Written, FilesRefine, PartlyMeansRefinement, WritesSound, IsNotPut}
 
 -- the text that was put is that of the rows' proof file
-proof_held : (asked : Option Text) (rows : List Row) (answers : List Judged) (proof : Option (Vec ℕ)) (after : Option Files) → IsProofAsked asked rows answers proof → HoldsText asked proof after → HoldsProof asked rows answers after
-proof_held None rows answers proof after is holds = tt
-proof_held (Some name) rows answers None after is holds = absurd is
-proof_held (Some name) rows answers (Some text) after is holds = (text.items, holds, is)
+proof_held : (asked : Option Text) (bounds : Bounds) (budget : Budget) (rows : List Row) (answers : List Judged) (proof : Option (Vec ℕ)) (after : Option Files) → IsProofAsked asked bounds budget rows answers proof → HoldsText asked proof after → HoldsProof asked bounds budget rows answers after
+proof_held None bounds budget rows answers proof after is holds = tt
+proof_held (Some name) bounds budget rows answers None after is holds = absurd is
+proof_held (Some name) bounds budget rows answers (Some text) after is holds = (text.items, holds, is)
 
 -- a delivery after calls that count no failed put
 pub delivered_from : (asked : Option Text) (proof : Option (Vec ℕ)) (text : List ℕ) (status result : ℕ) (old mid new : ShelfState) (out out_new : SinkState) → mid.put_faults ≡ old.put_faults
@@ -27,7 +27,7 @@ module _ (known : Option Files) (c : Check) (result status : ℕ) (answers : Lis
       go : IsSent status result text out out_new → WhereKnown known (λ files. Written files c result answers shelf_new.files out out_new)
       go (inl e) = λ files f.
           subst (λ s. Written files c s answers shelf_new.files out out_new) (sym e.0)
-          (let r = reports files f in record { text = text; reports = r.reports; put = proof_held c.proof r.reports.report.rows answers proof shelf_new.files r.asked d.put; written = e.1 })
+          (let r = reports files f in record { text = text; reports = r.reports; put = proof_held c.proof c.bounds c.budget r.reports.report.rows answers proof shelf_new.files r.asked d.put; written = e.1 })
       go (inr e) = absurd (omega (arith, e.0, le))
   delivered_whole reports (inr e) le = absurd (omega (arith, e.0, le))
 
@@ -37,7 +37,7 @@ module _ (known : Option Files) (c : Check) (result status : ℕ) (answers : Lis
     where
       go : IsSent status result text out out_new → WhereKnown known (λ files. PartlyWritten files c answers shelf_new.files out out_new ⊎ IsNotPut c.proof shelf shelf_new out out_new)
       go (inl e) = absurd (omega (arith, e.0, within, seven))
-      go (inr e) = λ files f. let r = reports files f in inl (record { text = text; status = status; reports = r.reports; put = proof_held c.proof r.reports.report.rows answers proof shelf_new.files r.asked d.put; cut_off = e.1 })
+      go (inr e) = λ files f. let r = reports files f in inl (record { text = text; status = status; reports = r.reports; put = proof_held c.proof c.bounds c.budget r.reports.report.rows answers proof shelf_new.files r.asked d.put; cut_off = e.1 })
   delivered_part reports (inr e) within seven = λ files f. inr e.1
 
   pub delivered_unfinished : Reported → Delivered → status ≤ 3 → result ≡ 7 → WhereKnown known (λ files. IsUnfinished files c answers shelf shelf_new out out_new)

@@ -1,6 +1,7 @@
 -- The rows of two modules are sound.
-use Rattle.tv_run.proofs.Common.{◌≡◌, ◌≤◌, ◌⊎◌, ◌+◌, ◌||◌, ℕ, zero, suc, arith, Bool, true, false, true≢false, cond, List, [], ◌∷◌, Option, Some, None, Result, Ok, Err, refl, sym, ap, subst, ◌∙◌, inl, inr, is_some, if◌then◌else◌, count_by, IsDistinct, AllByRecursion, ltb-false, All-contains_itself, All-weaker, Contains-append_cases, Contains-append_left, Contains-append_right, Name, Number, Word, Function, Refused, Entry, Module, IsModule, Bounds, Budget, Point, Shown, Verdict, Functions, same_signature, Finding, Row, function_named, IsJudged, IsCompared, IsFinding, IsRow, AreSourceRows, AreRows, extra_row, extra_rows, has_some, is_of_class, status_of, FileReportsAreSound, ReportsAreSound, may_answer, entry_names, HasFunction, HoldsThroughout, IsPairNamed, IsRefined, HasVerdict, IsSound}
+use Rattle.tv_run.proofs.Common.{◌≡◌, ◌≤◌, ◌⊎◌, ◌+◌, ◌||◌, ℕ, zero, suc, arith, Bool, true, false, true≢false, cond, List, [], ◌∷◌, Option, Some, None, Result, Ok, Err, refl, sym, ap, subst, ◌∙◌, inl, inr, is_some, if◌then◌else◌, ◌&&◌, list_any, count_by, IsDistinct, AllByRecursion, ltb-false, All-contains_itself, All-weaker, Contains-append_cases, Contains-append_left, Contains-append_right, Name, Number, Word, Function, Refused, Entry, Module, IsModule, Bounds, Budget, Point, Shown, Verdict, Functions, same_signature, Finding, Row, function_named, IsJudged, IsCompared, IsFinding, IsRow, ends, GoesOn, AreSourceRows, AreRows, after_row, rows_whole, whole_is, extra_row, extra_rows, has_some, is_of_class, status_of, FileReportsAreSound, ReportsAreSound, may_answer, entry_names, HasFunction, HoldsThroughout, IsPairNamed, IsRefined, HasVerdict, IsSound}
 use Rattle.std.specs.Prelude.{Contains}
+use Rattle.std.proofs.lemmas.List.Folds.{list_any_none}
 use Rattle.std.proofs.lemmas.List.Sums.{sum_by-cons}
 use Rattle.std.proofs.lemmas.Map.Keys.{IsDistinct-head, IsDistinct-tail}
 use Rattle.std.proofs.lemmas.Slice.Eq.{bytes_eq-Decides}
@@ -84,18 +85,21 @@ function_named-once (x ∷ es) e apart here = go (contains_cases x es e here) (f
 -- ---- rows
 
 -- a row is that of some function of the source
-row_of : (may : Functions → Verdict → Type 0) (bounds : Bounds) (targets sources : List Entry) (rows : List Row) (row : Row) → AreSourceRows may bounds targets sources rows → Contains rows row → (source : Entry) × Contains sources source × IsRow may bounds targets source row
-row_of may bounds targets [] [] row are here = absurd (no_element row here)
-row_of may bounds targets [] (r ∷ rows) row are here = absurd are
-row_of may bounds targets (s ∷ sources) [] row are here = absurd are
-row_of may bounds targets (s ∷ sources) (r ∷ rows) row are here = go (contains_cases r rows row here) (row_of may bounds targets sources rows row are.1)
+row_of : (first : Bool) (may : Functions → Verdict → Type 0) (bounds : Bounds) (targets sources : List Entry) (rows : List Row) (row : Row) → AreSourceRows first may bounds targets sources rows → Contains rows row → (source : Entry) × Contains sources source × IsRow may bounds targets source row
+row_of first may bounds targets [] [] row are here = absurd (no_element row here)
+row_of first may bounds targets [] (r ∷ rows) row are here = absurd are
+row_of first may bounds targets (s ∷ sources) [] row are here = absurd are
+row_of first may bounds targets (s ∷ sources) (r ∷ rows) row are here =
+    go (contains_cases r rows row here)
+    (after_row (λ (rs : List Row). Contains rs row → (source : Entry) × Contains sources source × IsRow may bounds targets source row) (ends first r) rows (AreSourceRows first may bounds targets sources rows)
+    (λ none. absurd (no_element row none)) (row_of first may bounds targets sources rows row) are.1)
   where
     go : (r ≡ row) ⊎ Contains rows row → (Contains rows row → (source : Entry) × Contains sources source × IsRow may bounds targets source row) → (source : Entry) × Contains (s ∷ sources) source × IsRow may bounds targets source row
     go (inl is) rest = (s, contains_first s sources, subst (λ (x : Row). IsRow may bounds targets s x) is are.0)
     go (inr later) rest = let found = rest later in (found.0, contains_later s sources found.0 found.1, found.2)
 
--- each function of the source has a row
-row_for : (may : Functions → Verdict → Type 0) (bounds : Bounds) (targets sources : List Entry) (rows : List Row) (source : Entry) → AreSourceRows may bounds targets sources rows → Contains sources source → (row : Row) × Contains rows row × IsRow may bounds targets source row
+-- each function of the source has a row, where none ends the report
+row_for : (may : Functions → Verdict → Type 0) (bounds : Bounds) (targets sources : List Entry) (rows : List Row) (source : Entry) → AreSourceRows false may bounds targets sources rows → Contains sources source → (row : Row) × Contains rows row × IsRow may bounds targets source row
 row_for may bounds targets [] rows source are here = absurd (no_element source here)
 row_for may bounds targets (s ∷ sources) [] source are here = absurd are
 row_for may bounds targets (s ∷ sources) (r ∷ rows) source are here = go (contains_cases s sources source here) (row_for may bounds targets sources rows source are.1)
@@ -115,6 +119,10 @@ extra_finding sources (t ∷ ts) row here = go (function_named sources t.name) (
     go : (o : Option (Result Function Refused)) → (Contains (extra_rows sources ts) row → row.finding ≡ finding.Extra) → Contains (if is_some o then extra_rows sources ts else extra_row t ∷ extra_rows sources ts) row → row.finding ≡ finding.Extra
     go (Some f) rest h = rest h
     go None rest h = first (contains_cases (extra_row t) (extra_rows sources ts) row h) rest
+
+unless_ended : (ended : Bool) (extra : List Row) (row : Row) → Contains (cond ended [] extra) row → Contains extra row
+unless_ended true extra row here = absurd (no_element row here)
+unless_ended false extra row here = here
 
 -- ---- rows with a verdict
 
@@ -145,13 +153,14 @@ record IsRowOf (may : Functions → Verdict → Type 0) (bounds : Bounds) (sourc
   pub named : IsPairNamed source target row.name pair
   pub judged : IsJudged may bounds pair row.finding
 
-judged_row : (may : Functions → Verdict → Type 0) (bounds : Bounds) (source target : Module) (rows : List Row) (row : Row) → AreRows may bounds source target rows → Contains rows row → HasVerdict row.finding → IsRowOf may bounds source target row
-judged_row may bounds source target rows row are here has = go (Contains-append_cases are.judged (extra_rows source.entries target.entries) row (subst (λ (rs : List Row). Contains rs row) are.all here))
+judged_row : (first : Bool) (may : Functions → Verdict → Type 0) (bounds : Bounds) (source target : Module) (rows : List Row) (row : Row) → AreRows first may bounds source target rows → Contains rows row → HasVerdict row.finding → IsRowOf may bounds source target row
+judged_row first may bounds source target rows row are here has =
+    go (Contains-append_cases are.judged (cond (list_any (ends first) are.judged) [] (extra_rows source.entries target.entries)) row (subst (λ (rs : List Row). Contains rs row) are.all here))
   where
-    go : Contains are.judged row ⊎ Contains (extra_rows source.entries target.entries) row → IsRowOf may bounds source target row
-    go (inr extra) = absurd (without_verdict row.finding finding.Extra has (extra_finding source.entries target.entries row extra))
+    go : Contains are.judged row ⊎ Contains (cond (list_any (ends first) are.judged) [] (extra_rows source.entries target.entries)) row → IsRowOf may bounds source target row
+    go (inr extra) = absurd (without_verdict row.finding finding.Extra has (extra_finding source.entries target.entries row (unless_ended (list_any (ends first) are.judged) (extra_rows source.entries target.entries) row extra)))
     go (inl judged) =
-        let of = row_of may bounds target.entries source.entries are.judged row are.each judged in
+        let of = row_of first may bounds target.entries source.entries are.judged row are.each judged in
         let found = found_of may bounds of.0.function (function_named target.entries of.0.name) row.finding has of.2.found in
         let at = entry_named target.entries of.0.name (Ok found.pair.target) found.target_is in
         record {
@@ -237,12 +246,12 @@ pair_verdict may bounds source target pair found is has same h =
     subst (λ (s : Result Function Refused). IsFinding may bounds s (Some (Ok pair.target)) found) is (subst (λ (t : Option (Result Function Refused)). IsFinding may bounds source t found) has h) in
     judged_verdict may bounds pair found (subst (λ (b : Bool). IsCompared may bounds pair b found) same at)
 
-pair_row : (may : Functions → Verdict → Type 0) (bounds : Bounds) (source target : Module) (rows : List Row) (name : Name) (pair : Functions) → IsDistinct same_name (entry_names target.entries) → AreRows may bounds source target rows → IsPairNamed source target name pair
+pair_row : (may : Functions → Verdict → Type 0) (bounds : Bounds) (source target : Module) (rows : List Row) (name : Name) (pair : Functions) → IsDistinct same_name (entry_names target.entries) → AreRows false may bounds source target rows → IsPairNamed source target name pair
     → (row : Row) × Contains rows row × (row.name ≡ name) × HasVerdict row.finding
 pair_row may bounds source target rows name pair apart are named =
     let s = named.source_has.entry in
     let of = row_for may bounds target.entries source.entries are.judged s are.each named.source_has.there in
-    let here : Contains rows of.0 = subst (λ (rs : List Row). Contains rs of.0) (sym are.all) (Contains-append_left are.judged (extra_rows source.entries target.entries) of.0 of.1) in
+    let here : Contains rows of.0 = subst (λ (rs : List Row). Contains rs of.0) (sym (whole_is may bounds source target rows are)) (Contains-append_left are.judged (extra_rows source.entries target.entries) of.0 of.1) in
     let target_is : function_named target.entries s.name ≡ Some (Ok pair.target) =
     ap (function_named target.entries) named.source_has.named ∙ function_at target name pair.target apart named.target_has in
     (of.0, here, of.2.name ∙ named.source_has.named, pair_verdict may bounds s.function (function_named target.entries s.name) pair of.0.finding named.source_has.accepted target_is named.signature of.2.found)
@@ -305,11 +314,11 @@ extra_there sources (x ∷ ts) t none here = go (function_named sources x.name) 
     go None is (inl same) rest = subst (λ (y : Entry). Contains (extra_row x ∷ extra_rows sources ts) (extra_row y)) same (contains_first (extra_row x) (extra_rows sources ts))
     go None is (inr later) rest = contains_later (extra_row x) (extra_rows sources ts) (extra_row t) (rest later)
 
-module _ (holds : CorrectHolds) (bounds : Bounds) (budget : Budget) (source target : Module) (rows : List Row) (known : IsJudgeableModule source) (target_known : IsJudgeableModule target) (are : AreRows (may_answer bounds budget) bounds source target rows) (none : status_of rows ≡ 0) where
+module _ (holds : CorrectHolds) (bounds : Bounds) (budget : Budget) (source target : Module) (rows : List Row) (known : IsJudgeableModule source) (target_known : IsJudgeableModule target) (are : AreRows false (may_answer bounds budget) bounds source target rows) (none : status_of rows ≡ 0) where
   source_refined : (entry : Entry) → Contains source.entries entry → IsRefined bounds source target (λ pair. pair.source) entry
   source_refined entry here =
       let of = row_for (may_answer bounds budget) bounds target.entries source.entries are.judged entry are.each here in
-      let among : Contains rows of.0 = subst (λ (rs : List Row). Contains rs of.0) (sym are.all) (Contains-append_left are.judged (extra_rows source.entries target.entries) of.0 of.1) in
+      let among : Contains rows of.0 = subst (λ (rs : List Row). Contains rs of.0) (sym (whole_is (may_answer bounds budget) bounds source target rows are)) (Contains-append_left are.judged (extra_rows source.entries target.entries) of.0 of.1) in
       let correct : of.0.finding ≡ finding.Correct = each_correct rows of.0 none among in
       let found = found_of (may_answer bounds budget) bounds entry.function (function_named target.entries entry.name) of.0.finding (has_verdict of.0.finding finding.Correct correct tt) of.2.found in
       let at = entry_named target.entries entry.name (Ok found.pair.target) found.target_is in
@@ -331,7 +340,7 @@ module _ (holds : CorrectHolds) (bounds : Bounds) (budget : Budget) (source targ
       go : (o : Option (Result Function Refused)) → function_named source.entries entry.name ≡ o → IsRefined bounds source target (λ pair. pair.target) entry
       go None absent =
           let extra = extra_there source.entries target.entries entry absent here in
-          let among : Contains rows (extra_row entry) = subst (λ (rs : List Row). Contains rs (extra_row entry)) (sym are.all) (Contains-append_right are.judged (extra_rows source.entries target.entries) (extra_row entry) extra) in
+          let among : Contains rows (extra_row entry) = subst (λ (rs : List Row). Contains rs (extra_row entry)) (sym (whole_is (may_answer bounds budget) bounds source target rows are)) (Contains-append_right are.judged (extra_rows source.entries target.entries) (extra_row entry) extra) in
           absurd (let e : finding.Extra ≡ finding.Correct = each_correct rows (extra_row entry) none among in cc e)
       go (Some f) is =
           let at = entry_named source.entries entry.name f is in
@@ -350,24 +359,37 @@ module _ (holds : CorrectHolds) (bounds : Bounds) (budget : Budget) (source targ
     of_target = All-weaker (Contains target.entries) (IsRefined bounds source target (λ pair. pair.target)) target_refined target.entries (All-contains_itself target.entries);
   }
 
+-- ---- status 0 says that no row ends the report
+
+correct_goes_on : (first : Bool) (row : Row) → row.finding ≡ finding.Correct → ends first row ≡ false
+correct_goes_on true row is = ap (is_of_class class.Incorrect) is
+correct_goes_on false row is = refl
+
+none_ends : (first : Bool) (rows : List Row) → status_of rows ≡ 0 → list_any (ends first) rows ≡ false
+none_ends first rows none =
+    list_any_none (ends first) rows
+    (All-weaker (Contains rows) (λ (row : Row). ends first row ≡ false) (λ row here. correct_goes_on first row (each_correct rows row none here)) rows (All-contains_itself rows))
+
 -- ---- the theorem
 
-rows_are_sound : CorrectHolds → IncorrectFails → (bounds : Bounds) (budget : Budget) (source target : Module) (rows : List Row) → IsJudgeableModule source → IsJudgeableModule target → AreRows (may_answer bounds budget) bounds source target rows → IsSound bounds source target rows
-rows_are_sound holds fails bounds budget source target rows known target_known are = record {
+rows_are_sound : CorrectHolds → IncorrectFails → (first : Bool) (bounds : Bounds) (budget : Budget) (source target : Module) (rows : List Row) → IsJudgeableModule source → IsJudgeableModule target → AreRows first (may_answer bounds budget) bounds source target rows → IsSound first bounds source target rows
+rows_are_sound holds fails first bounds budget source target rows known target_known are = record {
   correct = λ row here is.
-      let of = judged_row (may_answer bounds budget) bounds source target rows row are here (has_verdict row.finding finding.Correct is tt) in
+      let of = judged_row first (may_answer bounds budget) bounds source target rows row are here (has_verdict row.finding finding.Correct is tt) in
       (of.pair, of.named, correct_row holds bounds budget of.pair row.finding (accepted_pair source target row.name of.pair known.judgeable target_known.judgeable of.named) is of.judged);
   incorrect = λ row point shown here is.
-      let of = judged_row (may_answer bounds budget) bounds source target rows row are here (has_verdict row.finding (finding.Incorrect point shown) is tt) in
+      let of = judged_row first (may_answer bounds budget) bounds source target rows row are here (has_verdict row.finding (finding.Incorrect point shown) is tt) in
       (of.pair, of.named, incorrect_row fails bounds budget of.pair row.finding point shown (accepted_pair source target row.name of.pair known.judgeable target_known.judgeable of.named) is of.judged);
   one = λ name pair other x y. pair_one source target name pair other known.distinct target_known.distinct x y;
-  whole = λ name pair named. pair_row (may_answer bounds budget) bounds source target rows name pair target_known.distinct are named;
-  throughout = λ none. holds_throughout holds bounds budget source target rows known target_known are none;
+  whole = λ none name pair named.
+      pair_row (may_answer bounds budget) bounds source target rows name pair target_known.distinct (rows_whole first (may_answer bounds budget) bounds source target rows are none) named;
+  throughout = λ none.
+      holds_throughout holds bounds budget source target rows known target_known (rows_whole first (may_answer bounds budget) bounds source target rows are (none_ends first rows none)) none;
 }
 
 pub reports_are_sound : CorrectHolds → IncorrectFails → ReportsAreSound
-reports_are_sound holds fails bounds budget source target answers text status known target_known report =
-    rows_are_sound holds fails bounds budget source target report.rows known target_known report.are_rows
+reports_are_sound holds fails first bounds budget source target answers text status known target_known report =
+    rows_are_sound holds fails first bounds budget source target report.rows known target_known report.are_rows
 
 -- a text that is a module is one that the judge takes
 module_known : (text : List ℕ) (m : Module) → IsModule text m → IsJudgeableModule m
@@ -385,7 +407,7 @@ file_reports_are_sound sound files c answers text status report = record {
   target_is = report.target_is;
   rows = report.report.rows;
   sound =
-      sound c.bounds c.budget report.source report.target answers text status
+      sound c.first c.bounds c.budget report.source report.target answers text status
       (module_known report.source_is.text report.source report.source_is.holds.1)
       (module_known report.target_is.text report.target report.target_is.holds.1)
       report.report;

@@ -1,5 +1,5 @@
 -- The check of two texts.
-use Rattle.tv_run.proofs.Common.{◌≡◌, ◌≢◌, ◌⊎◌, ◌≤◌, ◌<◌, ℕ, arith, List, [], length, Some, Result, Ok, Err, refl, sym, ap, subst, ◌∙◌, inl, inr, codes, Rose, Files, SinkState, AreInRange, Bounds, Budget, Module, ModuleOrFault, IsModule, Judged, Check, HasModule, IsReport, Reports, Stop, stop_status, WritesLine}
+use Rattle.tv_run.proofs.Common.{◌≡◌, ◌≢◌, ◌⊎◌, ◌≤◌, ◌<◌, ℕ, arith, Bool, false, List, [], length, Some, Result, Ok, Err, refl, sym, ap, subst, ◌∙◌, inl, inr, codes, Rose, Files, SinkState, AreInRange, Bounds, Budget, Module, ModuleOrFault, IsModule, Judged, Check, HasModule, IsReport, Reports, Stop, stop_status, WritesLine}
 use Rattle.std.specs.Prelude.{IfOk}
 use Rattle.support.specs.declared.no_memory.NoMemory.{NoMemory}
 use Rattle.module_files.specs.Files.{text_limit}
@@ -17,15 +17,16 @@ use Rattle.tv_run.proofs.ReadAgain.{no_fault}
 
 module _ (source target : List ℕ) (bounds : Bounds) (budget : Budget) (files : Files) (c : Check) (checks : ChecksTexts source target bounds budget files c) where
   pub texts_report : (m n : Module) (answers : List Judged) (text : List ℕ) (status : ℕ) → AreWithin source target → IsModule source m → IsModule target n
-      → IsReport bounds budget m n answers text status → Reports files c answers text status
+      → IsReport false bounds budget m n answers text status → Reports files c answers text status
   texts_report m n answers text status within source_is target_is report = record {
     source = m;
     target = n;
     source_is = record { text = source; there = checks.source_is; holds = (within.source_within, source_is) };
     target_is = record { text = target; there = checks.target_is; holds = (within.target_within, target_is) };
     report =
-        subst (λ (b : Bounds). IsReport b c.budget m n answers text status) (sym checks.bounds_are)
-        (subst (λ (b : Budget). IsReport bounds b m n answers text status) (sym checks.budget_is) report);
+        subst (λ (b : Bool). IsReport b c.bounds c.budget m n answers text status) (sym checks.first_is)
+        (subst (λ (b : Bounds). IsReport false b c.budget m n answers text status) (sym checks.bounds_are)
+        (subst (λ (b : Budget). IsReport false bounds b m n answers text status) (sym checks.budget_is) report));
   }
 
   pub texts_in_range : AreInRange bounds budget → AreInRange c.bounds c.budget

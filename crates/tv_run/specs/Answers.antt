@@ -9,17 +9,19 @@ use Rattle.tv_io.specs.Taken.{IsWritten, IsCutOff}
 use Rattle.ir_tree.specs.Names.{same_name}
 use Rattle.ir_tree.specs.declared.module.Module.{Module}
 use Rattle.ir_reader.specs.Judgeable.{IsJudgeableEntry}
+use Rattle.points.specs.declared.point.Bounds.{Bounds}
+use Rattle.points.specs.declared.point.Budget.{Budget}
 use Rattle.pair_driver.specs.declared.judged.Judged.{Judged}
 use Rattle.report.specs.declared.row.Row.{Row}
 use Rattle.report.specs.Text.{report_text}
 use Rattle.report.specs.Status.{status_of}
-use Rattle.proof_text.specs.declared.part.Part.{Part}
+use Rattle.proof_text.specs.declared.part.Proof.{Proof}
 use Rattle.proof_text.specs.declared.part.ProofFault.TheVariants as proof_fault
 use Rattle.proof_text.specs.FirstFault.{IsFaultOf as IsWrongLine}
 use Rattle.proof_files.specs.Parts.{IsReadName}
 use Rattle.tv_cli.specs.Words.{Text, Check, Job}
 use Rattle.tv_cli.specs.Words.Job.{check, log}
-use Rattle.tv_run.specs.Files.{proof_limit, HasModule, HasParts, WhereKnown}
+use Rattle.tv_run.specs.Files.{proof_limit, HasModule, HasProof, WhereKnown}
 use Rattle.tv_run.specs.Jobs.{OfMake}
 use Rattle.tv_run.specs.Reports.{Reports, IsReport, IsProofFile}
 use Rattle.module_rows.specs.Searching.{entry_names}
@@ -55,44 +57,44 @@ pub record FitsIn (room : ℕ) (files : Files) (command : Option Job) : Type 0 w
   pub fits : (answers : List Judged) (text : List ℕ) (status : ℕ) → Reports files both.c answers text status → length text ≤ room
 
 -- the file that the job checks is known, and is a proof file
-pub record AreParts (known : Option Files) (command : Option Job) : Type 0 where
+pub record IsKnownProof (known : Option Files) (command : Option Job) : Type 0 where
   pub files : Files
   pub name : Text
-  pub parts : List Part
+  pub proof : Proof
   pub files_are : known ≡ Some files
   pub job_is : command ≡ Some (log name)
-  pub parts_are : HasParts (files name) parts
+  pub proof_is : HasProof (files name) proof
 
 -- which jobs are done: only a read or a write that fails, or memory that runs out, stops them
 pub record Completes (known : Option Files) (command : Option Job) (result : ℕ) : Type 0 where
   pub checked : AreModules known command → (result ≤ 3) ⊎ (result ≡ 5) ⊎ (result ≡ 7) ⊎ (result ≡ 8)
-  pub logged : AreParts known command → (result ≤ 1) ⊎ (result ≡ 5) ⊎ (result ≡ 7) ⊎ (result ≡ 8)
+  pub logged : IsKnownProof known command → (result ≤ 1) ⊎ (result ≡ 5) ⊎ (result ≡ 7) ⊎ (result ≡ 8)
   pub made : OfMake command (λ m. (result ≤ 3) ⊎ (result ≡ 7) ⊎ (result ≡ 8))
 
 -- ---- the proof file of a report
 
 -- its text, where one is asked for
-abbrev pub IsProofAsked : Option Text → List Row → List Judged → Option (Vec ℕ) → Type 0
-IsProofAsked None rows answers proof = Unit {0}
-IsProofAsked (Some name) rows answers None = ⊥
-IsProofAsked (Some name) rows answers (Some text) = IsProofFile rows answers text.items
+abbrev pub IsProofAsked : Option Text → Bounds → Budget → List Row → List Judged → Option (Vec ℕ) → Type 0
+IsProofAsked None bounds budget rows answers proof = Unit {0}
+IsProofAsked (Some name) bounds budget rows answers None = ⊥
+IsProofAsked (Some name) bounds budget rows answers (Some text) = IsProofFile bounds budget rows answers text.items
 
 -- rows as a text and as a status, with the judge's answers on them, and with that text
 pub record IsReportOn (c : Check) (rows : List Row) (judged answers : List Judged) (text : List ℕ) (status : ℕ) (proof : Option (Vec ℕ)) : Type 0 where
   pub answers_are : answers ≡ judged
-  pub text_is : text ≡ report_text c.bounds c.budget rows
+  pub text_is : text ≡ report_text c.bounds c.budget c.first rows
   pub status_is : status ≡ status_of rows
-  pub asked : IsProofAsked c.proof rows judged proof
+  pub asked : IsProofAsked c.proof c.bounds c.budget rows judged proof
 
 -- the report of two modules, with that text
 pub record IsReportOf (c : Check) (source target : Module) (answers : List Judged) (text : List ℕ) (status : ℕ) (proof : Option (Vec ℕ)) : Type 0 where
-  pub report : IsReport c.bounds c.budget source target answers text status
-  pub asked : IsProofAsked c.proof report.rows answers proof
+  pub report : IsReport c.first c.bounds c.budget source target answers text status
+  pub asked : IsProofAsked c.proof c.bounds c.budget report.rows answers proof
 
 -- and of two files
 pub record HasReport (files : Files) (c : Check) (answers : List Judged) (text : List ℕ) (status : ℕ) (proof : Option (Vec ℕ)) : Type 0 where
   pub reports : Reports files c answers text status
-  pub asked : IsProofAsked c.proof reports.report.rows answers proof
+  pub asked : IsProofAsked c.proof c.bounds c.budget reports.report.rows answers proof
 
 -- ---- delivering it
 

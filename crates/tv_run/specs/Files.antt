@@ -1,6 +1,6 @@
 -- What a file holds: a module, a proof file, a fault, or too many bytes.
 use Rattle.std.specs.Prelude.{ℕ, ◌<◌, ◌≤◌, List, length, Option}
-use Rattle.proof_text.specs.declared.part.Part.{Part}
+use Rattle.proof_text.specs.declared.part.Proof.{Proof}
 use Rattle.proof_text.specs.declared.part.ProofFault.TheVariants as proof_fault
 use Rattle.proof_text.specs.FirstFault.{IsFaultOf}
 use Rattle.proof_text.specs.Format.{IsProof}
@@ -15,9 +15,9 @@ proof_limit = 268435456
 abbrev pub IsLongerProof : Option (List ℕ) → Type 0
 IsLongerProof file = HasText file (λ text. proof_limit < length text)
 
--- the file is the proof file of these parts, within the limit
-abbrev pub HasParts : Option (List ℕ) → List Part → Type 0
-HasParts file parts = HasText file (λ text. (length text ≤ proof_limit) × IsProof text parts)
+-- the file is the proof file of this proof, within the limit
+abbrev pub HasProof : Option (List ℕ) → Proof → Type 0
+HasProof file proof = HasText file (λ text. (length text ≤ proof_limit) × IsProof text proof)
 
 -- the file is no proof file, within the limit, and this is the first line that no proof file has there
 abbrev pub HasWrongLine : Option (List ℕ) → ℕ → Type 0

@@ -4,17 +4,18 @@ use Rattle.tv_io.specs.Files.{Files}
 use Rattle.tv_io.specs.State.{SinkState}
 use Rattle.tv_io.specs.Taken.{IsWritten, IsCutOff}
 use Rattle.proof_text.specs.declared.part.Part.{Part}
+use Rattle.proof_text.specs.declared.part.Proof.{Proof}
 use Rattle.proof_files.specs.Checks.{AreChecked}
 use Rattle.proof_files.specs.Laws.{verified_lines}
 use Rattle.tv_cli.specs.Words.{Text}
 use Rattle.pair_driver.specs.declared.judged.Judged.{Judged}
-use Rattle.tv_run.specs.Files.{HasParts, WhereKnown}
+use Rattle.tv_run.specs.Files.{HasProof, WhereKnown}
 
 -- these lines say which parts of the proof file of this name are verified, and which step of each other is bad
 pub record SaysVerified (files : Files) (name : Text) (text : List ℕ) (status : ℕ) : Type 0 where
-  pub parts : List Part
-  pub parts_are : HasParts (files name) parts
-  pub checked : AreChecked parts text status
+  pub proof : Proof
+  pub proof_is : HasProof (files name) proof
+  pub checked : AreChecked proof.parts text status
 
 -- the sink took those lines, and nothing else
 pub record LogWritten (files : Files) (name : Text) (status : ℕ) (old new : SinkState) : Type 0 where

@@ -31,8 +31,8 @@ make_line m = codes "make seed " ++ decimal m.seed ++ codes " functions " ++ dec
 -- counted are sound
 pub record IsSummary (m : Make) (source target : Module) (answers : List Judged) (text : List ℕ) (status : ℕ) : Type 0 where
   pub whole : List ℕ
-  pub report : IsReport m.bounds m.budget source target answers whole status
-  pub sound : IsSound m.bounds source target report.rows
+  pub report : IsReport false m.bounds m.budget source target answers whole status
+  pub sound : IsSound false m.bounds source target report.rows
   pub text_is : text ≡ summary_text m.bounds m.budget (make_line m) report.rows
 
 -- those of a made pair

@@ -1,6 +1,6 @@
 -- What the text of a report says of its rows: their names and findings, except for the point of an
 -- incorrect row and what is shown of it.
-use Rattle.std.specs.Prelude.{◌≡◌, ◌<◌, ◌^◌, All, List}
+use Rattle.std.specs.Prelude.{◌≡◌, ◌<◌, ◌^◌, All, Bool, List}
 use Rattle.std.specs.List.{AllZip}
 use Rattle.points.specs.declared.point.Bounds.{Bounds}
 use Rattle.points.specs.declared.point.Budget.{Budget}
@@ -33,6 +33,6 @@ pub record SaysTheSame (row other : Row) : Type 0 where
 -- reports with one text have the same number of rows, and each row says the same
 abbrev pub TextsHaveOneListOfRows : Type 0
 TextsHaveOneListOfRows = (bounds other_bounds : Bounds) (budget other_budget : Budget)
-    (rows others : List Row) → All IsReadRow rows → All IsReadRow others
-    → report_text bounds budget rows ≡ report_text other_bounds other_budget others
+    (first other_first : Bool) (rows others : List Row) → All IsReadRow rows → All IsReadRow others
+    → report_text bounds budget first rows ≡ report_text other_bounds other_budget other_first others
     → AllZip SaysTheSame rows others

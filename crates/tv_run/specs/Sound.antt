@@ -1,7 +1,9 @@
 -- What a report says of two modules, in terms of refinement: a row `correct` means that the
 -- target's function refines the source's, a row `incorrect` gives a counterexample, each pair of
--- functions has its row, and with status 0 each function of either module is in a pair that refines.
-use Rattle.std.specs.Prelude.{◌≡◌, ◌≤◌, ◌⊎◌, ℕ, true, All, List, Contains, Ok}
+-- functions has its row up to where the report ends, and with status 0 each function of either module
+-- is in a pair that refines.
+use Rattle.std.specs.Prelude.{◌≡◌, ◌≤◌, ◌⊎◌, ℕ, Bool, true, false, All, List, Contains, Ok}
+use Rattle.std.specs.List.{list_any}
 use Rattle.tv_io.specs.Files.{Files}
 use Rattle.tv_io.specs.State.{ShelfState, SinkState}
 use Rattle.tv_io.specs.Taken.{IsWritten, IsCutOff}
@@ -17,6 +19,7 @@ use Rattle.verdicts.specs.Laws.{Holds, IsCounterexample}
 use Rattle.report.specs.declared.row.Finding.{Finding}
 use Rattle.report.specs.declared.row.Finding.TheVariants as finding
 use Rattle.report.specs.declared.row.Row.{Row}
+use Rattle.report.specs.Rows.{ends}
 use Rattle.report.specs.Text.{report_text}
 use Rattle.report.specs.Status.{status_of}
 use Rattle.tv_cli.specs.Words.{Check}
@@ -57,7 +60,7 @@ HasVerdict (finding.Incorrect point shown) = Unit {0}
 HasVerdict (finding.Unknown cause) = Unit {0}
 HasVerdict _ = ⊥
 
-pub record IsSound (bounds : Bounds) (source target : Module) (rows : List Row) : Type 0 where
+pub record IsSound (first : Bool) (bounds : Bounds) (source target : Module) (rows : List Row) : Type 0 where
   -- a correct row: on every input within the bounds, each run of the target's function is allowed by a run of the source's
   pub correct : (row : Row) → Contains rows row → row.finding ≡ finding.Correct
       → (pair : Functions) × IsPairNamed source target row.name pair × Holds pair bounds
@@ -66,8 +69,8 @@ pub record IsSound (bounds : Bounds) (source target : Module) (rows : List Row) 
       → (pair : Functions) × IsPairNamed source target row.name pair × IsCounterexample pair bounds point
   -- a name has one pair
   pub one : (name : Name) (pair other : Functions) → IsPairNamed source target name pair → IsPairNamed source target name other → pair ≡ other
-  -- no pair is left out
-  pub whole : (name : Name) (pair : Functions) → IsPairNamed source target name pair
+  -- no pair is left out, unless the report ends at a row
+  pub whole : list_any (ends first) rows ≡ false → (name : Name) (pair : Functions) → IsPairNamed source target name pair
       → (row : Row) × Contains rows row × (row.name ≡ name) × HasVerdict row.finding
   -- status 0 says that of each function
   pub throughout : status_of rows ≡ 0 → HoldsThroughout bounds source target
@@ -81,8 +84,8 @@ pub record SaysRefinement (files : Files) (c : Check) (text : List ℕ) (status 
   pub source_is : HasModule (files c.source) source
   pub target_is : HasModule (files c.target) target
   pub rows : List Row
-  pub sound : IsSound c.bounds source target rows
-  pub text_is : text ≡ report_text c.bounds c.budget rows
+  pub sound : IsSound c.first c.bounds source target rows
+  pub text_is : text ≡ report_text c.bounds c.budget c.first rows
   pub status_is : status ≡ status_of rows
 
 -- such a report was written, and nothing else

@@ -1,5 +1,5 @@
 -- The check of two texts: that of two files, `source` and `target`, which hold them.
-use Rattle.std.specs.Prelude.{◌≡◌, ℕ, List, [], codes, Some}
+use Rattle.std.specs.Prelude.{◌≡◌, ℕ, false, List, [], codes, Some}
 use Rattle.tv_io.specs.Files.{Files}
 use Rattle.ir_tree.specs.declared.module.Module.{Module}
 use Rattle.module_files.specs.declared.stop.Stop.{Stop}
@@ -11,12 +11,13 @@ use Rattle.points.specs.declared.point.Budget.{Budget}
 use Rattle.tv_cli.specs.Words.{Text, Check}
 use Rattle.tv_run.specs.Files.{HasModule}
 
--- a check of files that hold these texts, within these bounds and this budget, whatever they are called
+-- a check of all pairs of files that hold these texts, within these bounds and this budget, whatever they are called
 pub record ChecksTexts (source target : List ℕ) (bounds : Bounds) (budget : Budget) (files : Files) (c : Check) : Type 0 where
   pub source_is : files c.source ≡ Some source
   pub target_is : files c.target ≡ Some target
   pub bounds_are : c.bounds ≡ bounds
   pub budget_is : c.budget ≡ budget
+  pub first_is : c.first ≡ false
 
 -- a fact of each such check
 abbrev pub OfTexts : (source target : List ℕ) → Bounds → Budget → (Files → Check → Type 0) → Type 0

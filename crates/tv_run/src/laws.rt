@@ -1,11 +1,11 @@
 //! What reports say, and that there is one.
 
-ghost use Rattle.tv_run.specs.Laws.{FaultsAreOne, FileReportsAreDefined, FileReportsAreSound, ModulesHaveNoFault, PutProofsAreVerified, ReportsAreDefined, ReportsAreOne, ReportsAreSound};
+ghost use Rattle.tv_run.specs.Laws.{FaultsAreOne, FileReportsAreDefined, FileReportsAreSound, FirstReportsHaveTheFirstRows, ModulesHaveNoFault, PutProofsAreVerified, ReportsAreDefined, ReportsAreOne, ReportsAreSound};
 ghost use Rattle.tv_run.specs.OneReading.{TextsHaveOneListOfRows};
 
 use ir_reader::is_one_module;
 use proof_files::texts_are_verified;
-use report::rows_are_one;
+use report::{first_rows_are_the_first, rows_are_one};
 use verdicts::{correct_holds, incorrect_fails};
 
 /// What a report says of two modules holds: a correct row means refinement on every input within the
@@ -45,6 +45,14 @@ pub fn reports_are_one()
 {
     is_one_module();
     rows_are_one();
+}
+
+/// Where a check is to end at the first incorrect row, its defined report has the rows of the whole one up
+/// to and with that row.
+pub fn first_reports_have_the_first_rows()
+    ensures { FirstReportsHaveTheFirstRows }
+{
+    first_rows_are_the_first();
 }
 
 /// Two files have one fault, as a file has one fault or a module.

@@ -1,8 +1,8 @@
 //! The job `log`: a proof file is checked.
 
-ghost use Rattle.std.specs.Prelude.{◌≡◌, List, IfOk, IfErr, OnOk};
+ghost use Rattle.std.specs.Prelude.{◌≡◌, IfOk, IfErr, OnOk};
 ghost use Rattle.tv_io.specs.State.{ShelfState};
-ghost use Rattle.proof_text.specs.declared.part.Part.{Part};
+ghost use Rattle.proof_text.specs.declared.part.Proof.{Proof};
 ghost use Rattle.proof_text.specs.Format.{IsProof};
 ghost use Rattle.proof_files.specs.Checks.{AreChecked};
 ghost use Rattle.tv_run.specs.Files.{WhereKnown};
@@ -58,11 +58,11 @@ fn load_proof<S: Shelf>(alloc: Global, shelf: &mut S, name: &str) -> Result<Vec<
 
 /// What is written of the parts of a text, or the first line that no proof file has there.
 fn check_text<R: Threads + Sync>(rt: &R, alloc: Global, text: &[u8]) -> Result<Checked, LogStop>
-    ensures checked { IfOk result (λ checked. (parts : List Part) × IsProof text.now parts × AreChecked parts checked.text.items checked.status) }
+    ensures checked { IfOk result (λ checked. (proof : Proof) × IsProof text.now proof × AreChecked proof.parts checked.text.items checked.status) }
     ensures no_proof { IfErr result (IsNoProof text.now) }
 {
     match parse(alloc, text) {
-        Ok(parts) => Ok(check_parts(rt, alloc, parts.as_slice())?),
+        Ok(proof) => Ok(check_parts(rt, alloc, proof.parts.as_slice())?),
         Err(ProofFault::Line(line)) => Err(LogStop::Trouble(LogTrouble::Line(line))),
         Err(ProofFault::NoMemory) => Err(LogStop::NoMemory),
     }

@@ -94,6 +94,7 @@ fn report_of_texts(
         budget: *budget,
         workers: 1,
         proof: None,
+        first: false,
     };
     let report = report_in_turn(alloc, &check, &both.source, &both.target)?;
     Ok(report)

@@ -14,7 +14,7 @@ ghost use Rattle.tv_run.specs.Reports.{IsUnfinished, WritesDefinedReport, Writte
 ghost use Rattle.tv_run.specs.Logs.{IsLogged};
 ghost use Rattle.tv_run.specs.Makes.{IsMade};
 ghost use Rattle.tv_run.specs.Stops.{CountsNoOther, IsNotPut, IsUnwritten, Refuses, RefusesJob, RefusesLog, RejectsWords, WritesLine, log_trouble_line, log_trouble_status};
-ghost use Rattle.tv_run.specs.Answers.{AreModules, AreParts, Completes, IsDelivered, IsSent};
+ghost use Rattle.tv_run.specs.Answers.{AreModules, Completes, IsDelivered, IsKnownProof, IsSent};
 
 use crate::check::{Report, report_of};
 use crate::laws::{file_reports_are_defined, file_reports_are_sound, modules_have_no_fault};
@@ -53,8 +53,12 @@ use tv_io::{PutFault, Shelf, Sink, write_line, write_whole};
 /// first byte is written, and the proof file is written before that. A line of a fault allocates
 /// nothing. Each pair passes the gate before it is judged.
 ///
-/// With `--proof` the named file holds a part for each correct and each incorrect row, in order, with
-/// the certificate of the row's answer. It may be one of the two files that are judged.
+/// With `--first` the report ends at its first incorrect row, and its first line says so. No pair is begun
+/// after one that is known to be incorrect.
+///
+/// With `--proof` the named file holds the bounds and the budget, and a part for each correct and each
+/// incorrect row, in order, with the certificate of the row's answer. It may be one of the two files that
+/// are judged.
 ///
 /// After status 0 to 3, and 7, `judged` holds the judge's answer for each row with a verdict, in row
 /// order: the trail and the certificate of the verdict; for `log` it is empty. After any other status it
@@ -69,7 +73,8 @@ pub fn run<R: AllocGlobal + Threads + Sync, S: Shelf, K: Sink, G: Gate>(
 ) -> u8
     // What is written of a check says how functions refine: `correct` means that on every input within
     // the bounds each run of the target is allowed by a run of the source, `incorrect` gives a
-    // counterexample, and each pair of functions has its row. So does a report that is cut off.
+    // counterexample, and each pair of functions has its row, unless the report ends at a row before.
+    // So does a report that is cut off.
     ensures sound { WhereChecked (S.state shelf.old).files (job_in arguments.now)
         (λ files c. WritesSound files c result
         (S.state shelf.old) (S.state shelf.new) (K.state out.old) (K.state out.new)) }
@@ -243,7 +248,7 @@ fn run_log<R: AllocGlobal + Threads + Sync, S: Shelf, K: Sink>(
     ensures unwritten { result ≡ 7 → Rose (K.state out.old).faults (K.state out.new).faults }
     ensures memory { result ≡ 8 → K.state out.new ≡ K.state out.old }
     ensures unjudged { 3 < result → result ≢ 7 → judged.new.items ≡ judged.old.items }
-    ensures complete { AreParts (S.state shelf.old).files (Some (log_job name.now))
+    ensures complete { IsKnownProof (S.state shelf.old).files (Some (log_job name.now))
         → (result ≤ 1) ⊎ (result ≡ 5) ⊎ (result ≡ 7) ⊎ (result ≡ 8) }
     ensures quiet { CountsNoOther result
         (S.state shelf.old) (S.state shelf.new) (K.state out.old) (K.state out.new) }

@@ -1,5 +1,5 @@
-use Rattle.module_rows.proofs.Common.{◌≡◌, ◌+◌, ◌*◌, ◌^◌, ◌<◌, List, length, sym, subst, ◌∙◌, AllByRecursion, AllZip, Functions, CanBeJudged, IsAnswer, judged_pairs}
-use Rattle.module_rows.proofs.Answered.{zipped_answers}
+use Rattle.module_rows.proofs.Common.{◌≡◌, ◌+◌, ◌*◌, ◌^◌, ◌<◌, List, length, sym, subst, ◌∙◌, ap, AllByRecursion, AllZip, Functions, Judged, AreAnswers, CanBeJudged, IsAnswer, judged_pairs, verdicts_answered}
+use Rattle.module_rows.proofs.Answered.{all_up_to, zipped_answers}
 use Rattle.module_rows.proofs.Pairs.{pairs_judged, pairs_fit}
 use Rattle.module_rows.proofs.rows.all_rows.Goals as goal
 
@@ -17,14 +17,20 @@ pub judgements_of-requires-clause-answered : goal.judgements_of-requires-clause-
 judgements_of-requires-clause-answered g c =
     let bounds = c.args.judge.now.bounds in
     let budget = c.args.judge.now.budget in
-    zipped_answers bounds budget _ _
-    (subst (λ (ps : List Functions). AllZip (λ pair answer. IsAnswer pair bounds budget answer) ps c.in_ok-answers.answers.items) (c.as_slice.ensures.value ∙ c.in_ok-pairing.ensures.pairs) c.in_ok-answers.ensures)
+    all_up_to bounds budget _ _
+    (zipped_answers bounds budget _ _
+    (subst (λ (ps : List Functions). AllZip (λ pair answer. IsAnswer pair bounds budget answer) ps c.in_ok-answers.answers.items) (c.as_slice.ensures.value ∙ c.in_ok-pairing.ensures.pairs) c.in_ok-answers.ensures))
 
 pub returns-clause-rows : goal.returns-clause-rows
-returns-clause-rows g c = c.judgements_of.ensures.rows
+returns-clause-rows g c = c.in_ok-judgements.ensures.rows
 
 pub returns-clause-answered : goal.returns-clause-answered
-returns-clause-answered g c = c.judgements_of.ensures.answered
+returns-clause-answered g c =
+    let bounds = c.args.judge.now.bounds in
+    let budget = c.args.judge.now.budget in
+    subst (λ (xs : List Judged). AreAnswers bounds budget (judged_pairs c.args.target.now.entries c.args.source.now.entries) xs) (sym c.in_ok-judgements.ensures.answers)
+    (zipped_answers bounds budget _ _
+    (subst (λ (ps : List Functions). AllZip (λ pair answer. IsAnswer pair bounds budget answer) ps c.in_ok-answers.answers.items) (c.as_slice.ensures.value ∙ c.in_ok-pairing.ensures.pairs) c.in_ok-answers.ensures))
 
 pub returns-clause-reported : goal.returns-clause-reported
-returns-clause-reported g c = c.judgements_of.ensures.reported
+returns-clause-reported g c = c.in_ok-judgements.ensures.reported ∙ ap verdicts_answered (sym c.in_ok-judgements.ensures.answers)

@@ -20,5 +20,5 @@ returns-clause-check c =
     let source : Some c.in-Some.source.now ≡ first_of (codes "A") (rows_of f) = c.in-Some.ensures ∙ first_value-rows f (codes "A") in
     let target : Some c.in-Some-get_str.target.now ≡ first_of (codes "B") (rows_of f) = c.in-Some-get_str.ensures ∙ first_value-rows f (codes "B") in
     let proof = c.get_str-proof.ensures ∙ first_value-rows f (codes "proof") in
-    (λ i. check_with c.in-Some.source.now c.in-Some-get_str.target.now (c.in-Some-bounds_in.ensures.value i) (c.in-Some-budget_in.ensures.value i) (c.in-Some-workers_in.ensures.value i) (Some (proof i)))
+    (λ i. check_with c.in-Some.source.now c.in-Some-get_str.target.now (c.in-Some-bounds_in.ensures.value i) (c.in-Some-budget_in.ensures.value i) (c.in-Some-workers_in.ensures.value i) (Some (proof i)) (Some (c.is_set-first.ensures i)))
     ∙ (λ i. check_of_names (source i) (target i) (rows_of f))

@@ -4,7 +4,7 @@ use Rattle.tv_run.proofs.Reporting.{reported}
 use Rattle.tv_run.proofs.check.report_of_modules.Goals as goal
 
 pub report_on-requires-clause-names : goal.report_on-requires-clause-names
-report_on-requires-clause-names g c = rows_named _ _ c.args.source.now c.args.target.now _ c.in_ok-judgements.ensures.rows c.requires.source_is.named c.requires.target_is.named
+report_on-requires-clause-names g c = rows_named _ _ _ c.args.source.now c.args.target.now _ c.in_ok-judgements.ensures.rows c.requires.source_is.named c.requires.target_is.named
 
 pub report_on-requires-clause-certified : goal.report_on-requires-clause-certified
 report_on-requires-clause-certified g c =

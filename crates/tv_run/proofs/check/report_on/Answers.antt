@@ -17,9 +17,9 @@ proof_asked-requires-clause-each c =
 pub returns : goal.returns
 returns c = record {
   answers_are = refl;
-  text_is = c.in_ok-text.ensures ∙ ap (report_text c.args.check.now.bounds c.args.check.now.budget) c.as_slice-4.ensures.value;
+  text_is = c.in_ok-text.ensures ∙ ap (report_text c.args.check.now.bounds c.args.check.now.budget c.args.check.now.first) c.as_slice-4.ensures.value;
   status_is = c.status_of-status.ensures.value ∙ ap status_of c.as_slice-3.ensures.value;
   asked =
-      subst (λ (rows : List Row). IsProofAsked (seen_check c.args.check.now).proof rows c.args.judgements.answers.items c.in_ok-proof.proof) c.as_slice.ensures.value
-      (subst (λ (answers : List Judged). IsProofAsked (seen_check c.args.check.now).proof c.as_slice.result.now answers c.in_ok-proof.proof) c.as_slice-2.ensures.value c.in_ok-proof.ensures);
+      subst (λ (rows : List Row). IsProofAsked (seen_check c.args.check.now).proof c.args.check.now.bounds c.args.check.now.budget rows c.args.judgements.answers.items c.in_ok-proof.proof) c.as_slice.ensures.value
+      (subst (λ (answers : List Judged). IsProofAsked (seen_check c.args.check.now).proof c.args.check.now.bounds c.args.check.now.budget c.as_slice.result.now answers c.in_ok-proof.proof) c.as_slice-2.ensures.value c.in_ok-proof.ensures);
 }
