@@ -130,7 +130,7 @@ def counted(path, options):
     with tempfile.TemporaryDirectory(prefix="reach-") as folder:
         before = refusals(module, folder)
         try:
-            lowered = tvinput.written_out(module)
+            lowered = tvinput.written_out(module, module.text)
         except tvlib.Failure:
             return module, before, module, before
         return module, before, lowered, refusals(lowered, folder)

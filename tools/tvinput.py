@@ -5,6 +5,7 @@ import os
 import re
 import shlex
 import sys
+import tempfile
 
 import tvir
 import tvlib
@@ -14,6 +15,7 @@ WORDS, UNREADABLE = 4, 5
 ENDINGS = (".ll", ".bc")
 OPT_SECONDS = 300
 SOURCE = re.compile(r"src(?![a-zA-Z])|src$")
+NAME_OF_PAIR = re.compile(r'@("?)(src|tgt)(?![a-zA-Z])')
 
 
 @dataclasses.dataclass
@@ -90,11 +92,16 @@ def walked(paths):
     return files
 
 
-def written_out(module):
-    """The module with each function written out in what tv reads, by the plugin's pass tv-lower."""
-    done = tvlib.run([tvlib.opt_program(), f"-load-pass-plugin={tvlib.plugin()}", "-S",
-                      "-passes=tv-lower", "-o", "-", "-"],
-                     module.text.encode("utf-8", "surrogateescape"), OPT_SECONDS)
+def written_out(module, other):
+    """The module with each function written out in what tv reads, by the plugin's pass tv-lower.
+    `other` is the text of the other module of the pair: a global variable becomes a parameter where
+    both functions of a name can have it."""
+    with tempfile.NamedTemporaryFile(suffix=".ll") as file:
+        file.write(other.encode("utf-8", "surrogateescape"))
+        file.flush()
+        done = tvlib.run([tvlib.opt_program(), f"-load-pass-plugin={tvlib.plugin()}", "-S",
+                          f"-tv-pair={file.name}", "-passes=tv-lower", "-o", "-", "-"],
+                         module.text.encode("utf-8", "surrogateescape"), OPT_SECONDS)
     if done.status != 0:
         raise Failure(UNREADABLE, f"{module.path}: {last_line(done.errors) or 'opt failed'}")
     return tvir.Module(text_of(done.output, module.path), module.path, raw=module)
@@ -104,7 +111,7 @@ def pair_of(path, other, source, target, original, lower):
     """Two modules as a pair, written out where that is asked for."""
     names = tvir.names_of(source, target)
     if lower:
-        source, target = written_out(source), written_out(target)
+        source, target = written_out(source, target.text), written_out(target, source.text)
     return Pair(path, other, source, target, names, original)
 
 
@@ -138,9 +145,24 @@ def of_one(path, lower=False):
     pair = src_and_tgt(module, path)
     if not lower:
         return pair
-    whole = src_and_tgt(written_out(module), path)
+    whole = src_and_tgt(written_out(module, exchanged(module.text)), path)
     whole.source.raw, whole.target.raw, whole.original = pair.source, pair.target, pair.source
+    for name in whole.target.functions:
+        if variables_of(whole.source, name) != variables_of(whole.target, name):
+            raise Failure(UNREADABLE, f"{path}: the pair of @{name} has a name in another spelling")
     return whole
+
+
+def variables_of(module, name):
+    """The global variables that are parameters of a function that was written out."""
+    return [each for each in module.noted(name, "tv-dropped")
+            if each.startswith("@") and ":" not in each]
+
+
+def exchanged(text):
+    """A text with the names @src.. and @tgt.. in each other's place."""
+    other = {"src": "tgt", "tgt": "src"}
+    return NAME_OF_PAIR.sub(lambda found: f"@{found.group(1)}{other[found.group(2)]}", text)
 
 
 def src_and_tgt(module, path):

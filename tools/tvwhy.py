@@ -34,8 +34,8 @@ ADVICE = {
     "struct": "--lower writes fields in bytes (docs/PLUGIN.md), as 'instcombine' on both sides does "
               "with constant offsets (--before 'function(sroa,instcombine)'); 'sroa' takes values "
               "apart",
-    "global": "globals and constant expressions are not read: pass the address as a parameter "
-              "on both sides",
+    "global": "--lower makes one variable a parameter (docs/PLUGIN.md); by hand: pass the addresses "
+              "of several as parameters on both sides",
     "undef": "a jump, a phi, a division, an access or a pointer would depend on undef, or a name on "
              "more than 64 of them: freeze it first, or put a parameter for it",
     "pointer cast": "casts of pointers are not read: write the address by getelementptr",

@@ -1,8 +1,8 @@
 //===- Checker.h - Has a pair of functions judged -------------------------===//
 //
-// The one place that knows how tv is asked. ProcessChecker starts the program
-// for each question; a checker that calls a library instead would be another
-// subclass, and nothing else would change.
+// What is asked of a pair, and with which bounds, is the same for both
+// checkers; how tv is asked is theirs: one starts the program for each
+// question, the other calls the library.
 //
 //===----------------------------------------------------------------------===//
 
@@ -10,8 +10,9 @@
 #define TV_LLVM_CHECKER_H
 
 #include "Bounds.h"
-#include "Options.h"
+#include "llvm/ADT/ArrayRef.h"
 #include "llvm/ADT/StringRef.h"
+#include "llvm/Support/Error.h"
 #include <memory>
 #include <string>
 #include <vector>
@@ -44,14 +45,39 @@ struct Answer {
 
 class Checker {
 public:
+  /// `Arguments` are more arguments for `tv check`; bounds among them win over
+  /// those that are chosen for a pair.
+  explicit Checker(std::vector<std::string> Arguments)
+      : Arguments(std::move(Arguments)) {}
   virtual ~Checker() = default;
+
   /// Judges one function before and after a pass.
-  virtual Answer check(const Side &Source, const Side &Target) = 0;
+  Answer check(const Side &Source, const Side &Target);
+
+protected:
+  /// Asks tv of one pair, within these bounds.
+  virtual Answer ask(const Side &Source, const Side &Target,
+                     const Needs &Bounds) = 0;
+
+  const std::vector<std::string> Arguments;
+
+private:
+  bool isGiven(llvm::StringRef Name) const;
+  Needs boundsOf(const Side &Source, const Side &Target) const;
+  Answer reached(Answer Row, const Side &Source, const Needs &Bounds);
 };
 
-/// The checker that starts tv for each pair, so that neither its time nor its
-/// memory is the compiler's.
-std::unique_ptr<Checker> createProcessChecker(const Options &Opts);
+/// The checker that starts the program for each question, so that neither its
+/// time nor its memory is the compiler's. A run is ended after `Seconds`.
+std::unique_ptr<Checker>
+createProcessChecker(std::string Program, std::vector<std::string> Arguments,
+                     double Seconds);
+
+/// The checker that calls tv's library. An error where the plugin was built
+/// without it, it has another version than its header, or an argument is none
+/// that it takes.
+llvm::Expected<std::unique_ptr<Checker>>
+createLibraryChecker(std::vector<std::string> Arguments);
 
 } // namespace tv
 

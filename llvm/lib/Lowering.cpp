@@ -6,6 +6,10 @@
 #include "llvm/IR/DataLayout.h"
 #include "llvm/IR/InstIterator.h"
 #include "llvm/IR/Module.h"
+#include "llvm/IRReader/IRReader.h"
+#include "llvm/Support/CommandLine.h"
+#include "llvm/Support/ErrorHandling.h"
+#include "llvm/Support/SourceMgr.h"
 
 using namespace llvm;
 
@@ -43,10 +47,15 @@ static bool isFreeOfLayout(const Function &F) {
 // A function, a module
 //===----------------------------------------------------------------------===//
 
-static tv::Lowered lowerBody(Function &F) {
+static tv::Lowered lowerBody(Function *&Whole,
+                             const std::optional<tv::Global> &Variable) {
   tv::Lowered How;
-  tv::lowerHeader(F, How);
-  tv::lowerConstants(F, How);
+  tv::lowerHeader(*Whole, How);
+  tv::lowerConstants(*Whole, How);
+  tv::lowerFills(*Whole, How);
+  if (Variable)
+    Whole = tv::lowerGlobal(*Whole, *Variable, How);
+  Function &F = *Whole;
   tv::lowerPromises(F, How);
   tv::lowerHints(F, How);
   tv::lowerIntegers(F, How);
@@ -57,10 +66,11 @@ static tv::Lowered lowerBody(Function &F) {
   return How;
 }
 
-tv::Lowered tv::lowerFunction(Function &F) {
-  Lowered How = lowerBody(F);
+tv::Lowered tv::lowerFunction(Function *&F,
+                              const std::optional<Global> &Variable) {
+  Lowered How = lowerBody(F, Variable);
   if (How.Rules.count("layout"))
-    F.getParent()->setDataLayout("");
+    F->getParent()->setDataLayout("");
   return How;
 }
 
@@ -68,11 +78,47 @@ static std::string joined(const std::set<std::string> &Words) {
   return join(Words, " ");
 }
 
+static cl::opt<std::string>
+    PairOpt("tv-pair", cl::value_desc("file"),
+            cl::desc("The other module of a pair, for the pass tv-lower"));
+
+/// The other module of a pair; null where none is named. What it has of another
+/// form than this one is no variable that both name.
+static std::unique_ptr<Module> otherModule(LLVMContext &Context) {
+  if (PairOpt.empty())
+    return nullptr;
+  SMDiagnostic Fault;
+  std::unique_ptr<Module> Other = parseIRFile(PairOpt, Fault, Context);
+  if (!Other)
+    report_fatal_error("-tv-pair=" + Twine(PairOpt) + ": " + Fault.getMessage(),
+                       /*gen_crash_diag=*/false);
+  return Other;
+}
+
+/// The variable that becomes a parameter of each function of a module, which
+/// the function of this name in the other module decides too.
+static SmallVector<std::pair<Function *, std::optional<tv::Global>>, 16>
+withVariables(Module &M) {
+  SmallVector<std::pair<Function *, std::optional<tv::Global>>, 16> Found;
+  std::unique_ptr<Module> Other = otherModule(M.getContext());
+  for (Function &F : M) {
+    if (F.isDeclaration())
+      continue;
+    Found.push_back({&F, std::nullopt});
+    const Function *Second = Other ? Other->getFunction(F.getName()) : nullptr;
+    if (Second && !Second->isDeclaration())
+      Found.back().second =
+          tv::globalOf(tv::globalsOf(F), tv::globalsOf(*Second));
+  }
+  return Found;
+}
+
 PreservedAnalyses tv::LowerPass::run(Module &M, ModuleAnalysisManager &) {
   SmallVector<std::pair<Function *, Lowered>, 16> All;
-  for (Function &F : M)
-    if (!F.isDeclaration())
-      All.push_back({&F, lowerBody(F)});
+  for (auto &[F, Variable] : withVariables(M)) {
+    Lowered How = lowerBody(F, Variable);
+    All.push_back({F, std::move(How)});
+  }
   // Whoever takes a function out of the module can leave the layout there.
   if (all_of(All, [](auto &Each) { return Each.second.Rules.count("layout"); }))
     M.setDataLayout("");
@@ -89,9 +135,12 @@ PreservedAnalyses tv::LowerPass::run(Module &M, ModuleAnalysisManager &) {
 // What a missing promise may do to a verdict
 //===----------------------------------------------------------------------===//
 
-/// Whether a promise is one of the caller: the function itself can't break it.
+/// Whether a promise is one of the caller, or of a variable that has its
+/// address before the function runs: the function itself can't break it.
 static bool isOfCaller(StringRef Promise) {
   StringRef Name = Promise.split(':').second;
+  if (Promise.starts_with("@"))
+    return Name.empty();
   return Promise.starts_with("arg") &&
          (Name.starts_with("align(") || Name.starts_with("dereferenceable") ||
           Name == "writable" || Name == "sret");

@@ -13,6 +13,8 @@
 #include "llvm/ADT/SetVector.h"
 #include "llvm/ADT/StringRef.h"
 #include "llvm/IR/PassManager.h"
+#include <map>
+#include <optional>
 #include <set>
 #include <string>
 #include <vector>
@@ -24,14 +26,41 @@ struct Lowered {
   /// The rules that changed it, in the order of their names.
   std::set<std::string> Rules;
   /// The promises that tv isn't told and that may matter, e.g. `arg0:noalias`,
-  /// `ret:nonnull`, `!tbaa`.
+  /// `ret:nonnull`, `!tbaa`, `@variable`.
   std::set<std::string> Dropped;
   /// The parameters that it doesn't use.
   std::set<std::string> Unused;
 };
 
-/// Writes a function out in place, in a module of which it is the only one.
-Lowered lowerFunction(llvm::Function &F);
+/// A global variable: bytes and alignment that its memory has at least, and
+/// whether a store to it is undefined.
+struct Global {
+  std::string Name;
+  uint64_t Bytes = 0;
+  uint64_t Alignment = 1;
+  bool IsConstant = false;
+
+  bool operator==(const Global &Other) const {
+    return Name == Other.Name && Bytes == Other.Bytes &&
+           Alignment == Other.Alignment && IsConstant == Other.IsConstant;
+  }
+};
+
+/// Global variables by name.
+using Globals = std::map<std::string, Global>;
+
+/// The variables that a function names. One without a name is among them where
+/// none may become a parameter.
+Globals globalsOf(const llvm::Function &F);
+
+/// The one variable that becomes a parameter of both functions of a pair; none
+/// where they name none, or more than one together.
+std::optional<Global> globalOf(const Globals &Source, const Globals &Target);
+
+/// Writes a function out, in a module of which it is the only one, with this
+/// variable as its last parameter. The function may be replaced by another one.
+Lowered lowerFunction(llvm::Function *&F,
+                      const std::optional<Global> &Variable);
 
 /// The promises that are missing on the source's side, where they can make an
 /// `incorrect` a false alarm, and those on the target's, where they can make a
@@ -43,6 +72,8 @@ std::vector<std::string> hiddenFaults(const Lowered &Source,
 
 /// The pass tv-lower: writes each function of a module out, and notes rules
 /// and promises in its attributes "tv-rules", "tv-dropped" and "tv-unused".
+/// -tv-pair=FILE names the other module of a pair; without it no variable
+/// becomes a parameter.
 class LowerPass : public llvm::PassInfoMixin<LowerPass> {
 public:
   llvm::PreservedAnalyses run(llvm::Module &M, llvm::ModuleAnalysisManager &);

@@ -15,9 +15,11 @@
 #include "llvm/ADT/StringExtras.h"
 #include "llvm/Analysis/LazyCallGraph.h"
 #include "llvm/Analysis/LoopInfo.h"
+#include "llvm/AsmParser/Parser.h"
 #include "llvm/Support/ErrorHandling.h"
 #include "llvm/Support/FileSystem.h"
 #include "llvm/Support/Path.h"
+#include "llvm/Support/SourceMgr.h"
 #include "llvm/Support/WithColor.h"
 #include "llvm/Support/raw_ostream.h"
 
@@ -66,9 +68,10 @@ static const Function *functionOf(const Module &M, StringRef Key) {
   return nullptr;
 }
 
-tv::Observer::Observer(Options Given, PassInstrumentationCallbacks &Callbacks)
-    : Opts(std::move(Given)), Callbacks(Callbacks),
-      Judge(createProcessChecker(Opts)), Rows(Opts) {}
+tv::Observer::Observer(Options Given, std::unique_ptr<Checker> Judge,
+                       PassInstrumentationCallbacks &Callbacks)
+    : Opts(std::move(Given)), Callbacks(Callbacks), Judge(std::move(Judge)),
+      Rows(Opts) {}
 
 /// An error that has to be seen, but must not change what the compiler does.
 static void warn(Error Failure) {
@@ -87,10 +90,53 @@ tv::Observer::Seen tv::Observer::see(const Function &F, uint64_t Hash) const {
   if (!Copy)
     return Found;
   if (Opts.Lower)
-    Found.How = lowerFunction(*Copy->Function);
-  Found.Now.Memory = needsOf(*Copy->Function);
-  Found.Now.Text = textOf(*Copy->Module);
+    Found.Variables = globalsOf(F);
+  writeOut(Found, Copy->Function, globalOf(Found.Variables, Found.Variables));
   return Found;
+}
+
+/// Writes a function out as it is given to tv.
+void tv::Observer::writeOut(Seen &Found, Function *F,
+                            const std::optional<Global> &Variable) const {
+  if (Opts.Lower)
+    Found.How = lowerFunction(F, Variable);
+  Found.Parameter = Variable;
+  Found.LastArgument = ("arg " + Twine(F->arg_size() - 1) + " ").str();
+  Found.Now.Memory = needsOf(*F);
+  Found.Now.Text = textOf(*F->getParent());
+}
+
+/// Gives a function of a pair the variable that both have as a parameter. Most
+/// name the same one, so that nothing is left to do.
+void tv::Observer::join(Seen &Found,
+                        const std::optional<Global> &Variable) const {
+  if (Found.Parameter == Variable)
+    return;
+  LLVMContext Context;
+  SMDiagnostic Fault;
+  std::unique_ptr<Module> Copy =
+      parseAssemblyString(Found.Text, Fault, Context);
+  if (Copy)
+    for (Function &F : *Copy)
+      if (!F.isDeclaration())
+        return writeOut(Found, &F, Variable);
+  // As it was: tv refuses a variable.
+  Found.Now.Text = Found.Text;
+  Found.How = Lowered();
+}
+
+/// What tv says of a pair. A value of the variable that both have as their last
+/// parameter is shown as the variable's.
+tv::Answer tv::Observer::judge(Seen &Source, Seen &Target) {
+  std::optional<Global> Variable = globalOf(Source.Variables, Target.Variables);
+  join(Source, Variable);
+  join(Target, Variable);
+  Answer Row = Judge->check(Source.Now, Target.Now);
+  if (Variable)
+    for (std::string &Line : Row.Lines)
+      if (StringRef(Line).starts_with(Source.LastArgument))
+        Line.replace(0, Source.LastArgument.size(), "@" + Variable->Name + " ");
+  return Row;
 }
 
 void tv::Observer::before(StringRef Pass, Any IR) {
@@ -154,9 +200,9 @@ void tv::Observer::compare(const Running &Pass, const Function &F) {
   Last = std::move(Next);
 }
 
-void tv::Observer::report(const Place &At, bool SeesCallers, const Seen &Source,
-                          const Seen &Target) {
-  Answer Row = Judge->check(Source.Now, Target.Now);
+void tv::Observer::report(const Place &At, bool SeesCallers, Seen Source,
+                          Seen Target) {
+  Answer Row = judge(Source, Target);
   Written How;
   std::set<std::string> Rules = Source.How.Rules;
   Rules.insert(Target.How.Rules.begin(), Target.How.Rules.end());

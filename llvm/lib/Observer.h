@@ -5,6 +5,7 @@
 
 #include "Checker.h"
 #include "Lowering.h"
+#include "Options.h"
 #include "Report.h"
 #include "llvm/ADT/Any.h"
 #include "llvm/ADT/StringMap.h"
@@ -14,7 +15,8 @@ namespace tv {
 
 class Observer {
 public:
-  Observer(Options Given, llvm::PassInstrumentationCallbacks &Callbacks);
+  Observer(Options Given, std::unique_ptr<Checker> Judge,
+           llvm::PassInstrumentationCallbacks &Callbacks);
   ~Observer();
 
   void before(llvm::StringRef Pass, llvm::Any IR);
@@ -28,6 +30,11 @@ private:
     std::string Text;
     Side Now;
     Lowered How;
+    /// The variables that it names, and the one that is its parameter now.
+    Globals Variables;
+    std::optional<Global> Parameter;
+    /// How tv names the last argument in a counterexample.
+    std::string LastArgument;
   };
 
   /// A pass that runs: the functions that it may change.
@@ -40,9 +47,12 @@ private:
   };
 
   Seen see(const llvm::Function &F, uint64_t Hash) const;
+  void writeOut(Seen &Found, llvm::Function *F,
+                const std::optional<Global> &Variable) const;
+  void join(Seen &Found, const std::optional<Global> &Variable) const;
   void compare(const Running &Pass, const llvm::Function &F);
-  void report(const Place &At, bool SeesCallers, const Seen &Source,
-              const Seen &Target);
+  Answer judge(Seen &Source, Seen &Target);
+  void report(const Place &At, bool SeesCallers, Seen Source, Seen Target);
   void keep(const Place &At, const Answer &Row, const Seen &Source,
             const Seen &Target);
 

@@ -26,10 +26,15 @@ public:
     if (auto *Type = dyn_cast<FunctionType>(Global->getValueType()))
       return declareFunction(*Global, Type);
     auto *Variable = dyn_cast<GlobalVariable>(Global);
-    return new GlobalVariable(
+    auto *New = new GlobalVariable(
         M, Global->getValueType(), Variable && Variable->isConstant(),
-        GlobalValue::ExternalLinkage, nullptr, Global->getName(), nullptr,
-        Global->getThreadLocalMode(), Global->getAddressSpace());
+        Global->hasExternalWeakLinkage() ? GlobalValue::ExternalWeakLinkage
+                                         : GlobalValue::ExternalLinkage,
+        nullptr, Global->getName(), nullptr, Global->getThreadLocalMode(),
+        Global->getAddressSpace());
+    if (Variable)
+      New->setAlignment(Variable->getAlign());
+    return New;
   }
 
 private:

@@ -18,6 +18,9 @@ static cl::opt<bool> CheckOpt("tv", cl::desc("Check each pass with tv"),
 static cl::opt<std::string> ProgramOpt(
     "tv-program", cl::value_desc("file"), cl::cat(Category),
     cl::desc("The program tv (else the variable TV, else the PATH)"));
+static cl::opt<bool>
+    InProcessOpt("tv-in-process", cl::cat(Category),
+                 cl::desc("Call tv's library: no process, no limit of time"));
 static cl::opt<double>
     SecondsOpt("tv-seconds", cl::init(10), cl::cat(Category),
                cl::desc("Seconds after which a run of tv is ended (10)"));
@@ -145,6 +148,13 @@ Expected<tv::Options> tv::readOptions() {
   Found.Lower = !NoLowerOpt;
   if (!Found.Check)
     return Found;
+  Found.InProcess = InProcessOpt;
+  if (Found.InProcess)
+    for (const cl::Option *Other : {static_cast<cl::Option *>(&ProgramOpt),
+                                    static_cast<cl::Option *>(&SecondsOpt)})
+      if (Other->getNumOccurrences())
+        return createStringError("-tv-in-process goes without -" +
+                                 Other->ArgStr);
   if (!(SecondsOpt >= 0))
     return createStringError("-tv-seconds: not a number of seconds");
   Found.Seconds = SecondsOpt;

@@ -20,8 +20,8 @@ namespace tv {
 struct Options {
   /// Check each pass; without it the plugin only offers the pass tv-lower.
   bool Check = false;
-  /// The path of the program tv.
-  std::string Program;
+  /// Call the library in place of starting the program.
+  bool InProcess = false;
   /// Seconds after which a run of tv is ended.
   double Seconds = 10;
   /// More arguments for `tv check`, those of TV_ARGS before them.

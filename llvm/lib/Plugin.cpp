@@ -17,8 +17,10 @@ static constexpr int NotFound = 127;
 
 /// Has each pass observed. The observer lives as long as the callbacks do, so
 /// to the end of the compilation.
-static void observe(tv::Options Opts, PassInstrumentationCallbacks &PIC) {
-  auto Observer = std::make_shared<tv::Observer>(std::move(Opts), PIC);
+static void observe(tv::Options Opts, std::unique_ptr<tv::Checker> Judge,
+                    PassInstrumentationCallbacks &PIC) {
+  auto Observer =
+      std::make_shared<tv::Observer>(std::move(Opts), std::move(Judge), PIC);
   PIC.registerBeforeNonSkippedPassCallback(
       [Observer](StringRef Pass, Any IR) { Observer->before(Pass, IR); });
   PIC.registerAfterPassCallback(
@@ -51,14 +53,21 @@ template <typename T> static T valueOrExit(Expected<T> Found, int Status) {
   std::exit(Status);
 }
 
+static std::unique_ptr<tv::Checker> checkerOrExit(const tv::Options &Opts) {
+  if (Opts.InProcess)
+    return valueOrExit(tv::createLibraryChecker(Opts.Arguments), 1);
+  return tv::createProcessChecker(valueOrExit(tv::findProgram(), NotFound),
+                                  Opts.Arguments, Opts.Seconds);
+}
+
 static void registerPlugin(PassBuilder &Builder) {
   Builder.registerPipelineParsingCallback(addPass);
   tv::Options Opts = valueOrExit(tv::readOptions(), 1);
   PassInstrumentationCallbacks *PIC = Builder.getPassInstrumentationCallbacks();
   if (!Opts.Check || !PIC)
     return;
-  Opts.Program = valueOrExit(tv::findProgram(), NotFound);
-  observe(std::move(Opts), *PIC);
+  std::unique_ptr<tv::Checker> Judge = checkerOrExit(Opts);
+  observe(std::move(Opts), std::move(Judge), *PIC);
 }
 
 extern "C" LLVM_ATTRIBUTE_WEAK

@@ -4,6 +4,7 @@
 #define TV_LLVM_REPORT_H
 
 #include "Checker.h"
+#include "Options.h"
 #include "llvm/ADT/MapVector.h"
 
 namespace tv {

@@ -31,6 +31,9 @@ llvm::Value *inRange(Builder &B, llvm::Value *V,
 /// Makes a run undefined where the integer is poison.
 void requireDefined(Builder &B, llvm::Value *V);
 
+/// Whether a function may store through a pointer that is based on a parameter.
+bool mayWrite(const llvm::Argument &A);
+
 /// Each rewrites a function by the rules of one kind.
 void lowerHeader(llvm::Function &F, Lowered &How);
 void lowerPromises(llvm::Function &F, Lowered &How);
@@ -39,6 +42,13 @@ void lowerHints(llvm::Function &F, Lowered &How);
 void lowerIntegers(llvm::Function &F, Lowered &How);
 void lowerAssumes(llvm::Function &F, Lowered &How);
 void lowerMemory(llvm::Function &F, Lowered &How);
+/// Before the promises, which ask what is stored through a parameter.
+void lowerFills(llvm::Function &F, Lowered &How);
+
+/// Makes the address of a global variable the last parameter of a function.
+/// The function that it becomes.
+llvm::Function *lowerGlobal(llvm::Function &F, const Global &Known,
+                            Lowered &How);
 
 /// What an integer intrinsic gives, in instructions before it; null where it
 /// is none that a rule is for.

@@ -94,6 +94,7 @@ static Value *sameAs(IntrinsicInst &I) {
 static bool isNothing(const IntrinsicInst &I) {
   switch (I.getIntrinsicID()) {
   case Intrinsic::donothing:
+  case Intrinsic::prefetch:
   case Intrinsic::sideeffect:
   case Intrinsic::pseudoprobe:
   case Intrinsic::var_annotation:
@@ -109,9 +110,12 @@ static bool saysMore(const CallBase &Call) {
   AttributeList Attributes = Call.getAttributes();
   if (Call.hasOperandBundles() || Attributes.hasRetAttrs())
     return true;
+  // A prefetch does nothing with a poison address either.
+  bool MayBePoison = Call.getIntrinsicID() == Intrinsic::prefetch;
   for (unsigned At = 0; At < Call.arg_size(); ++At)
     for (Attribute A : Attributes.getParamAttrs(At))
-      if (!A.hasAttribute(Attribute::ImmArg))
+      if (!A.hasAttribute(Attribute::ImmArg) &&
+          !(MayBePoison && A.hasAttribute(Attribute::NonNull)))
         return true;
   return false;
 }

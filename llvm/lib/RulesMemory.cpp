@@ -6,6 +6,7 @@
 //===----------------------------------------------------------------------===//
 
 #include "Rules.h"
+#include "llvm/ADT/bit.h"
 #include "llvm/Analysis/CFG.h"
 #include "llvm/IR/DataLayout.h"
 #include "llvm/IR/Dominators.h"
@@ -429,6 +430,91 @@ static void lowerAggregates(Function &F, tv::Lowered &How) {
   for (InsertValueInst *Insert : reverse(Inserts))
     if (Insert->use_empty())
       Insert->eraseFromParent();
+}
+
+//===----------------------------------------------------------------------===//
+// memset
+//===----------------------------------------------------------------------===//
+
+// The bytes of the largest alloca that tv reads.
+static constexpr uint64_t MaxFill = 64;
+
+/// Whether a store of so many bytes through a pointer says all that an
+/// attribute of the pointer says.
+static bool isSaidByStore(Attribute Each, uint64_t Bytes) {
+  if (Each.isStringAttribute())
+    return false;
+  switch (Each.getKindAsEnum()) {
+  // The alignment is the store's.
+  case Attribute::Alignment:
+  case Attribute::NoUndef:
+  case Attribute::NonNull:
+  case Attribute::NoCapture:
+  case Attribute::WriteOnly:
+    return true;
+  case Attribute::Dereferenceable:
+    return Each.getDereferenceableBytes() <= Bytes;
+  case Attribute::DereferenceableOrNull:
+    return Each.getDereferenceableOrNullBytes() <= Bytes;
+  default:
+    return false;
+  }
+}
+
+/// The number of bytes that a memset fills; 0 where it isn't written out.
+static uint64_t filledBytes(const MemSetInst &Fill) {
+  auto *Length = dyn_cast<ConstantInt>(Fill.getLength());
+  if (!Length || Length->getValue().ugt(MaxFill) || Fill.isVolatile() ||
+      Fill.hasOperandBundles() || Fill.getDestAddressSpace() != 0 ||
+      tv::carriesUndef(Fill.getValue()) || tv::carriesUndef(Fill.getRawDest()))
+    return 0;
+  uint64_t Bytes = Length->getZExtValue();
+  AttributeList Attributes = Fill.getAttributes();
+  bool IsSaid = all_of(Attributes.getParamAttrs(0), [&](Attribute Each) {
+    return isSaidByStore(Each, Bytes);
+  });
+  bool IsPlain = !Attributes.hasParamAttrs(1) && !Attributes.hasParamAttrs(2);
+  return IsSaid && IsPlain ? Bytes : 0;
+}
+
+/// A byte as often as a number of so many bytes has it; poison of poison.
+static Value *repeated(Builder &B, Value *Byte, uint64_t Bytes) {
+  Type *Wide = B.getIntNTy(8 * Bytes);
+  if (Bytes == 1)
+    return Byte;
+  if (isa<PoisonValue>(Byte))
+    return PoisonValue::get(Wide);
+  if (auto *Number = dyn_cast<ConstantInt>(Byte))
+    return ConstantInt::get(Wide,
+                            APInt::getSplat(8 * Bytes, Number->getValue()));
+  Constant *Ones =
+      ConstantInt::get(Wide, APInt::getSplat(8 * Bytes, APInt(8, 1)));
+  return B.CreateMul(B.CreateZExt(Byte, Wide), Ones);
+}
+
+/// Fills by the widest stores that fit, from the first byte on.
+static void fillByStores(MemSetInst &Fill, uint64_t Bytes) {
+  Builder B(&Fill);
+  Align Alignment = Fill.getDestAlign().valueOrOne();
+  for (uint64_t Offset = 0; Offset < Bytes;) {
+    uint64_t Part = std::min<uint64_t>(8, bit_floor(Bytes - Offset));
+    Value *Address = addressOf(B, Fill.getRawDest(), Offset);
+    StoreInst *Store =
+        B.CreateAlignedStore(repeated(B, Fill.getValue(), Part), Address,
+                             commonAlignment(Alignment, Offset));
+    Store->copyMetadata(Fill);
+    Offset += Part;
+  }
+  Fill.eraseFromParent();
+}
+
+void tv::lowerFills(Function &F, Lowered &How) {
+  for (Instruction &I : make_early_inc_range(instructions(F)))
+    if (auto *Fill = dyn_cast<MemSetInst>(&I))
+      if (uint64_t Bytes = filledBytes(*Fill)) {
+        fillByStores(*Fill, Bytes);
+        How.Rules.insert("memset");
+      }
 }
 
 void tv::lowerMemory(Function &F, Lowered &How) {

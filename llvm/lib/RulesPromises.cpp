@@ -133,6 +133,11 @@ bool returnsOnly(const Function &F, const Value *V) {
 
 } // namespace
 
+bool tv::mayWrite(const Argument &A) {
+  PointerUse Uses = usesOf(A);
+  return Uses.Escapes || Uses.Writes;
+}
+
 /// Whether a function cannot break what an attribute of its parameter says.
 static bool cannotBreak(const Argument &A, Attribute::AttrKind Kind,
                         const PointerUse &Uses, const Accesses &All) {

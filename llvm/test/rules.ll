@@ -8,6 +8,14 @@ target datalayout = "e-m:e-p270:32:32-p271:32:32-p272:64:64-i64:64-i128:128-f80:
 %mixed = type { i8, i32, [3 x i16] }
 %empty = type { [0 x i32], i32 }
 
+@number = external global i32, align 4
+@other = external global i32, align 4
+@fields = external global { i32, i32 }, align 4
+@many = external global [100 x i8], align 16
+@fixed = external constant i32, align 4
+@perhaps = extern_weak global i32, align 4
+@each = external thread_local global i32, align 4
+
 declare i8 @llvm.smax.i8(i8, i8)
 declare i8 @llvm.umin.i8(i8, i8)
 declare i8 @llvm.abs.i8(i8, i1)
@@ -21,6 +29,8 @@ declare { i8, i1 } @llvm.umul.with.overflow.i8(i8, i8)
 declare i8 @llvm.expect.i8(i8, i8)
 declare void @llvm.assume(i1)
 declare void @llvm.donothing()
+declare void @llvm.prefetch.p0(ptr, i32, i32, i32)
+declare void @llvm.memset.p0.i64(ptr, i8, i64, i1)
 declare void @llvm.lifetime.start.p0(i64, ptr)
 declare void @llvm.lifetime.end.p0(i64, ptr)
 
@@ -675,6 +685,315 @@ define i8 @tgt.printed(i16 %x) {
   %t = trunc nuw nsw i16 %x to i8
   %r = add nuw nsw i8 %t, 44
   ret i8 %r
+}
+
+; correct [blocks 1] by hint
+define void @src.prefetch(ptr %p) {
+  call void @llvm.prefetch.p0(ptr nonnull %p, i32 0, i32 3, i32 1)
+  call void @llvm.prefetch.p0(ptr poison, i32 1, i32 3, i32 1)
+  ret void
+}
+define void @tgt.prefetch(ptr %p) {
+  ret void
+}
+
+; refused source Unsupported call @llvm.prefetch.p0
+define void @src.prefetch_noundef(ptr %p) {
+  call void @llvm.prefetch.p0(ptr noundef %p, i32 0, i32 3, i32 1)
+  ret void
+}
+define void @tgt.prefetch_noundef(ptr %p) {
+  ret void
+}
+
+; correct [blocks 1] by memset
+define void @src.memset(ptr %p, i8 %x) {
+  call void @llvm.memset.p0.i64(ptr noundef nonnull align 4 dereferenceable(7) %p, i8 %x, i64 7, i1 false)
+  ret void
+}
+define void @tgt.memset(ptr %p, i8 %x) {
+  store i8 %x, ptr %p, align 4
+  %p1 = getelementptr i8, ptr %p, i64 1
+  store i8 %x, ptr %p1
+  %p2 = getelementptr i8, ptr %p, i64 2
+  store i8 %x, ptr %p2
+  %p3 = getelementptr i8, ptr %p, i64 3
+  store i8 %x, ptr %p3
+  %p4 = getelementptr i8, ptr %p, i64 4
+  store i8 %x, ptr %p4
+  %p5 = getelementptr i8, ptr %p, i64 5
+  store i8 %x, ptr %p5
+  %p6 = getelementptr i8, ptr %p, i64 6
+  store i8 %x, ptr %p6
+  ret void
+}
+
+; incorrect [blocks 1] by memset
+define void @src.memset_less(ptr %p) {
+  call void @llvm.memset.p0.i64(ptr %p, i8 7, i64 3, i1 false)
+  ret void
+}
+define void @tgt.memset_less(ptr %p) {
+  store i32 117901063, ptr %p, align 1
+  ret void
+}
+
+; correct [blocks 1] by memset
+define void @src.memset_align(ptr %p) {
+  call void @llvm.memset.p0.i64(ptr align 8 %p, i8 -1, i64 8, i1 false)
+  ret void
+}
+define void @tgt.memset_align(ptr %p) {
+  store i64 -1, ptr %p, align 8
+  ret void
+}
+
+; correct by memset
+define i16 @src.memset_poison() {
+  %a = alloca i16
+  call void @llvm.memset.p0.i64(ptr %a, i8 poison, i64 2, i1 false)
+  %v = load i16, ptr %a
+  ret i16 %v
+}
+define i16 @tgt.memset_poison() {
+  ret i16 poison
+}
+
+; correct by memset
+define i64 @src.memset_local() {
+  %a = alloca [5 x i32]
+  call void @llvm.memset.p0.i64(ptr align 4 %a, i8 1, i64 19, i1 false)
+  %q = getelementptr i8, ptr %a, i64 11
+  %v = load i64, ptr %q, align 1
+  ret i64 %v
+}
+define i64 @tgt.memset_local() {
+  ret i64 72340172838076673
+}
+
+; correct [blocks 1] by memset, nocapture, writeonly
+define void @src.memset_promises(ptr nocapture writeonly %p) {
+  call void @llvm.memset.p0.i64(ptr %p, i8 1, i64 1, i1 false)
+  ret void
+}
+define void @tgt.memset_promises(ptr %p) {
+  store i8 1, ptr %p
+  ret void
+}
+
+; refused source Unsupported call @llvm.memset.p0.i64
+define void @src.memset_more_promised(ptr %p) {
+  call void @llvm.memset.p0.i64(ptr dereferenceable(9) %p, i8 1, i64 8, i1 false)
+  ret void
+}
+define void @tgt.memset_more_promised(ptr %p) {
+  store i64 72340172838076673, ptr %p, align 1
+  ret void
+}
+
+; refused source Unsupported call @llvm.memset.p0.i64
+define void @src.memset_volatile(ptr %p) {
+  call void @llvm.memset.p0.i64(ptr %p, i8 1, i64 8, i1 true)
+  ret void
+}
+define void @tgt.memset_volatile(ptr %p) {
+  store i64 72340172838076673, ptr %p, align 1
+  ret void
+}
+
+; refused source Unsupported call @llvm.memset.p0.i64
+define void @src.memset_nothing(ptr %p) {
+  call void @llvm.memset.p0.i64(ptr noundef %p, i8 1, i64 0, i1 false)
+  ret void
+}
+define void @tgt.memset_nothing(ptr %p) {
+  ret void
+}
+
+; correct [blocks 1] by global
+define i32 @src.global(i32 %x) {
+  store i32 %x, ptr @number
+  %v = load i32, ptr @number
+  ret i32 %v
+}
+define i32 @tgt.global(i32 %x) {
+  store i32 %x, ptr @number
+  ret i32 %x
+}
+
+; incorrect [blocks 1] by global; false alarm possible: @number
+define void @src.global_value() {
+  store i32 1, ptr @number
+  ret void
+}
+define void @tgt.global_value() {
+  store i32 2, ptr @number
+  ret void
+}
+
+; refused source Unsupported global @number
+define void @src.global_other() {
+  store i32 1, ptr @number
+  ret void
+}
+define void @tgt.global_other() {
+  store i32 1, ptr @other
+  ret void
+}
+
+; refused source Unsupported global @number
+define i32 @src.global_two() {
+  store i32 1, ptr @number
+  store i32 2, ptr @other
+  %v = load i32, ptr @number
+  ret i32 %v
+}
+define i32 @tgt.global_two() {
+  store i32 1, ptr @number
+  store i32 2, ptr @other
+  ret i32 1
+}
+
+; correct [blocks 1] by global
+define i32 @src.global_unused(i32 %x) {
+  %v = load i32, ptr @number
+  ret i32 %x
+}
+define i32 @tgt.global_unused(i32 %x) {
+  ret i32 %x
+}
+
+; correct [blocks 1] by global
+define i32 @src.global_memory(i1 noundef %c) {
+  br i1 %c, label %read, label %not
+read:
+  %v = load i32, ptr @number, align 1
+  ret i32 %v
+not:
+  ret i32 0
+}
+define i32 @tgt.global_memory(i1 noundef %c) {
+  %v = load i32, ptr @number, align 4
+  %r = select i1 %c, i32 %v, i32 0
+  ret i32 %r
+}
+
+; correct [blocks 1] by global
+define i8 @src.global_many(i64 %x, i1 noundef %c) {
+  %p = getelementptr inbounds [100 x i8], ptr @many, i64 0, i64 %x
+  %v = load i8, ptr %p
+  br i1 %c, label %read, label %not
+read:
+  %w = load i8, ptr @many
+  ret i8 %w
+not:
+  ret i8 %v
+}
+define i8 @tgt.global_many(i64 %x, i1 noundef %c) {
+  %p = getelementptr inbounds [100 x i8], ptr @many, i64 0, i64 %x
+  %v = load i8, ptr %p
+  %w = load i8, ptr @many, align 16
+  %r = select i1 %c, i8 %w, i8 %v
+  ret i8 %r
+}
+
+; incorrect [blocks 1] by global; false alarm possible: @number
+define i8 @src.global_past(i1 noundef %c) {
+  br i1 %c, label %read, label %not
+read:
+  %v = load i8, ptr getelementptr (i8, ptr @number, i64 4)
+  ret i8 %v
+not:
+  %w = load i8, ptr getelementptr (i8, ptr @number, i64 5)
+  ret i8 %w
+}
+define i8 @tgt.global_past(i1 noundef %c) {
+  %v = load i8, ptr getelementptr (i8, ptr @number, i64 4)
+  %w = load i8, ptr getelementptr (i8, ptr @number, i64 5)
+  %r = select i1 %c, i8 %w, i8 %v
+  ret i8 %r
+}
+
+; correct [blocks 1] by gep-bytes, global
+define i32 @src.global_field(i1 %c) {
+entry:
+  br i1 %c, label %one, label %end
+one:
+  br label %end
+end:
+  %p = phi ptr [ @fields, %entry ], [ getelementptr inbounds ({ i32, i32 }, ptr @fields, i64 0, i32 1), %one ]
+  %v = load i32, ptr %p
+  ret i32 %v
+}
+define i32 @tgt.global_field(i1 %c) {
+  br i1 %c, label %one, label %zero
+one:
+  %p = getelementptr i8, ptr @fields, i64 4
+  %v = load i32, ptr %p
+  ret i32 %v
+zero:
+  %w = load i32, ptr @fields
+  ret i32 %w
+}
+
+; correct [blocks 1] by global
+define ptr @src.global_returned() {
+  ret ptr @number
+}
+define ptr @tgt.global_returned() {
+  %p = getelementptr i8, ptr @number, i64 0
+  ret ptr %p
+}
+
+; correct [blocks 1] by global; fault may hide: @fixed:constant
+define void @src.global_constant() {
+  store i32 5, ptr @fixed
+  ret void
+}
+define void @tgt.global_constant() {
+  %v = add i32 2, 3
+  store i32 %v, ptr @fixed
+  ret void
+}
+
+; correct [blocks 1] by global
+define i32 @src.global_constant_read() {
+  %v = load i32, ptr @fixed
+  ret i32 %v
+}
+define i32 @tgt.global_constant_read() {
+  %v = load i32, ptr @fixed, align 4
+  ret i32 %v
+}
+
+; refused source Unsupported getelementptr
+define i32 @src.global_inrange() {
+  %v = load i32, ptr getelementptr inbounds inrange(0, 4) ({ i32, i32 }, ptr @fields, i64 0, i32 1)
+  ret i32 %v
+}
+define i32 @tgt.global_inrange() {
+  %v = load i32, ptr @fields
+  ret i32 %v
+}
+
+; refused source Unsupported global @perhaps
+define i32 @src.global_weak() {
+  %v = load i32, ptr @perhaps
+  ret i32 %v
+}
+define i32 @tgt.global_weak() {
+  %v = load i32, ptr @perhaps, align 4
+  ret i32 %v
+}
+
+; refused source Unsupported global @each
+define i32 @src.global_of_thread() {
+  %v = load i32, ptr @each
+  ret i32 %v
+}
+define i32 @tgt.global_of_thread() {
+  %v = load i32, ptr @each, align 4
+  ret i32 %v
 }
 
 ; correct by header

@@ -6,6 +6,7 @@ target datalayout = "e-m:e-p270:32:32-p271:32:32-p272:64:64-i64:64-i128:128-f80:
 %struct = type { i8, i64, float }
 
 @global = global i32 7
+@"two words" = global i32 7
 @text = private constant [4 x i8] c"abc\00"
 @label = constant ptr blockaddress(@jumps, %second)
 @alias = alias i32, ptr @global
@@ -28,6 +29,55 @@ define i32 @names_a_global(i32 %a) {
   %s = add i32 %v, %z
   %t = add i32 %s, ptrtoint (ptr @global to i32)
   ret i32 %t
+}
+
+define i32 @one_global_everywhere(i1 %c, i32 %x) {
+entry:
+  %agg = insertvalue { ptr, i32 } undef, ptr @global, 0
+  br i1 %c, label %one, label %two
+one:
+  call void @llvm.assume(i1 true) [ "align"(ptr @global, i64 4) ]
+  br label %two
+two:
+  %p = phi ptr [ @global, %entry ], [ getelementptr (i8, ptr @global, i64 2), %one ]
+  store { ptr, i32 } { ptr @global, i32 3 }, ptr %p
+  store ptr @global, ptr @global
+  %r = call i32 @one_global_everywhere(i1 %c, i32 ptrtoint (ptr @global to i32))
+  %f = call i32 @called(ptr @global, i32 %r)
+  ret i32 %f
+}
+
+define i32 @tail_with_global(i32 %a) {
+  %b = load i32, ptr @global
+  %r = musttail call i32 @tail_with_global(i32 %b)
+  ret i32 %r
+}
+
+define i32 @jumps_with_global(i32 %a) {
+  indirectbr ptr blockaddress(@jumps_with_global, %second), [label %second]
+second:
+  %b = load i32, ptr @global
+  ret i32 %b
+}
+
+define void @pushed_with_global(ptr inalloca(i32) %a) {
+  store i32 1, ptr @global
+  ret void
+}
+
+define void @more_with_global(i32 %a, ...) {
+  store i32 1, ptr @global
+  ret void
+}
+
+define i32 @quoted_global() {
+  %v = load i32, ptr @"two words"
+  ret i32 %v
+}
+
+define ptr @alias_and_global() {
+  store ptr @alias, ptr @global
+  ret ptr @alias
 }
 
 define i32 @calls(ptr %a, i32 %x) {

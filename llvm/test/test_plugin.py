@@ -5,8 +5,10 @@
 
 Needs cmake, a C++ compiler, llvm-19-dev and clang-19, and a tv (crates/tv/out/tv, or the variable
 TV); where one isn't there, a line says so and the tests are skipped. The build is kept in
-llvm/build/test. With --whole the rules for integers are tried on all inputs that
-llvm/RULES.md names, which takes minutes. The last line counts; the status is 1 where a case failed.
+llvm/build/test. What calls the library is tested with a stand-in that starts tv, and with the
+library where `rt lib` has made it (crates/tv_c/out/libtv_c.a). With --whole the rules for integers
+are tried on all inputs that llvm/RULES.md names, which takes minutes. The last line counts; the
+status is 1 where a case failed.
 """
 import json
 import os
@@ -25,6 +27,8 @@ TREE = os.path.dirname(os.path.dirname(HERE))
 TOOLS = os.path.join(TREE, "tools")
 BUILD = os.path.join(TREE, "llvm", "build", "test")
 PLUGIN = os.path.join(BUILD, "tv-llvm.so")
+STAND_IN = os.path.join(BUILD, "tv-llvm-stand-in.so")
+LIBRARY = os.path.join(TREE, "crates", "tv_c", "out", "libtv_c.a")
 WRONG = os.path.join(BUILD, "wrong-passes.so")
 PAIRS = os.path.join(HERE, "rules.ll")
 STRANGE = os.path.join(HERE, "strange.ll")
@@ -49,6 +53,37 @@ STORES = """define void @stores(ptr %p, ptr %q) {
 """
 
 
+VARIABLES = """@x = global i32 0, align 4
+@fixed = constant i32 5, align 4
+@y = global i32 0, align 4
+define i32 @loads(i32 %a) {
+  store i32 %a, ptr @x
+  %v = load i32, ptr @x
+  ret i32 %v
+}
+define i32 @unread(i32 %a) {
+  %v = load i32, ptr @x
+  ret i32 %a
+}
+define i32 @adds() {
+  %v = load i32, ptr @x
+  %s = add i32 %v, 1
+  ret i32 %s
+}
+define void @writes() {
+  %v = add i32 2, 3
+  store i32 %v, ptr @fixed
+  ret void
+}
+define i32 @both() {
+  store i32 1, ptr @x
+  store i32 2, ptr @y
+  %v = load i32, ptr @x
+  ret i32 %v
+}
+"""
+
+
 class Bench:
     """A folder in which opt and clang are run with the plugin."""
 
@@ -62,9 +97,9 @@ class Bench:
                               capture_output=True, env={**self.variables, **variables},
                               timeout=600)
 
-    def opt(self, text, passes, *args, **variables):
+    def opt(self, text, passes, *args, plugin=PLUGIN, **variables):
         """opt with both plugins and -tv on a module's text."""
-        return self.run(OPT, f"-load-pass-plugin={PLUGIN}", f"-load-pass-plugin={WRONG}", "-tv",
+        return self.run(OPT, f"-load-pass-plugin={plugin}", f"-load-pass-plugin={WRONG}", "-tv",
                         *args, f"-passes={passes}", "-S", "-o", "-", "-", data=text, **variables)
 
     def path(self, name):
@@ -171,12 +206,40 @@ def integers(bench):
 
 
 def lowered_alone(bench):
-    done = bench.run(OPT, f"-load-pass-plugin={PLUGIN}", "-passes=tv-lower", "-S", "-o", "-",
-                     STRANGE)
-    equal(done.returncode, 0, "the status of tv-lower")
-    again = bench.run(OPT, f"-load-pass-plugin={PLUGIN}", "-passes=tv-lower,verify", "-S", "-o",
-                      "-", "-", data=done.stdout)
-    equal(again.returncode, 0, "the status of tv-lower on what it wrote")
+    for more in ([], [f"-tv-pair={STRANGE}"]):
+        done = bench.run(OPT, f"-load-pass-plugin={PLUGIN}", *more, "-passes=tv-lower", "-S", "-o",
+                         "-", STRANGE)
+        equal((done.returncode, done.stderr), (0, ""), f"the status of tv-lower {more}")
+        equal("%global.global" in done.stdout, bool(more), "a parameter for the variable")
+        again = bench.run(OPT, f"-load-pass-plugin={PLUGIN}", "-passes=tv-lower,verify", "-S",
+                          "-o", "-", "-", data=done.stdout)
+        equal(again.returncode, 0, "the status of tv-lower on what it wrote")
+    done = bench.run(OPT, f"-load-pass-plugin={PLUGIN}", "-tv-pair=/none", "-passes=tv-lower", "-S",
+                     "-o", "-", STRANGE)
+    within("-tv-pair=/none: ", done.stderr, "what it says of a module that isn't there")
+    equal(done.returncode, 1, "the status then")
+
+
+def one_variable(bench):
+    """A variable that both functions, or one of them, name is a parameter of both; two are not."""
+    done = bench.opt(VARIABLES, "gvn,wrong-sub", "-tv-keep=kept")
+    within("tv: gvn @loads correct [blocks 1] by global\n", done.stderr, "the row")
+    within("tv: gvn @unread correct [blocks 1] by global\n", done.stderr, "the row of one side")
+    within("tv: SubtractPass @adds incorrect [blocks 1] by global; false alarm possible: @x\n"
+           "  @x = given1+0\n", done.stderr, "the counterexample")
+    within("tv: gvn @writes correct [blocks 1] by global; fault may hide: @fixed:constant\n",
+           done.stderr, "the row of a store to a constant")
+    within("tv: gvn @both refused source Unsupported", done.stderr, "the row of two")
+    before = bench.write("before.ll", VARIABLES)
+    after = bench.write("after.ll", done.stdout)
+    checked = bench.run(os.path.join(TOOLS, "tv-check"), "--lower", "--no-trace", before, after)
+    for row in ("@loads correct [blocks 1] by global\n", "@unread correct [blocks 1] by global\n",
+                "@adds incorrect [blocks 1] by global; false alarm possible: @x\n"):
+        within(row, checked.stdout, "tv-check")
+    within("@both refused source Unsupported", checked.stdout, "tv-check")
+    done = bench.run(bench.tv, "check", "kept/1-adds-SubtractPass.before.ll",
+                     "kept/1-adds-SubtractPass.after.ll")
+    within("@adds incorrect", done.stdout, "the kept pair")
 
 
 # What is seen.
@@ -273,6 +336,77 @@ def missing_tv(bench):
     equal(done.returncode, 0, "the status with -tv-program")
 
 
+# In the compiler's process.
+
+def same_rows_in_process(bench):
+    """The stand-in's rows are those of the program that it starts, and so are the library's."""
+    for plugin in [STAND_IN, *([PLUGIN] if os.path.exists(LIBRARY) else [])]:
+        for text, passes in ((SUM, "instcombine,wrong-sub,gvn"), (STORES, "wrong-alias"),
+                             (module_of_code(bench), "sroa,instcombine,simplifycfg")):
+            rows = []
+            for how in ("-tv-seconds=600", "-tv-in-process"):
+                done = bench.opt(text, passes, "-tv-report=rows", how, plugin=plugin,
+                                 TV_ARGS="--conflicts 20000")
+                with open(bench.path("rows")) as file:
+                    lines = [json.loads(line) for line in file]
+                os.unlink(bench.path("rows"))
+                for line in lines:
+                    line.pop("seconds", None)
+                rows.append((done.returncode, done.stderr, done.stdout, lines))
+            equal(rows[1], rows[0], f"what {passes} gives in process")
+            within("tv: correct", rows[0][1], "the report")
+
+
+def no_library(bench):
+    if os.path.exists(LIBRARY):
+        return
+    done = bench.opt(SUM, "wrong-sub", "-tv-in-process")
+    equal((done.returncode, done.stdout), (1, ""), "status and output")
+    within("-tv-in-process: this plugin was built without the library", done.stderr, "what it says")
+
+
+def options_in_process(bench):
+    """The library has the options of tv check and the bounds of the pair; others are refused."""
+    done = bench.opt(STORES, "wrong-alias", "-tv-in-process", "-tv-args=--turns=+3 --weight 7",
+                     plugin=STAND_IN, STAND_IN_LOG="log")
+    within("@stores", done.stderr, "the row")
+    with open(bench.path("log")) as file:
+        equal(file.readline(), "--turns 3 --blocks 2 --bytes 8 --rounds 64 --conflicts 0 "
+                               "--weight 7 room 65536\n", "the options")
+    for words, said in (("--turns 65", "out of its range: --turns 65"),
+                        ("--workers 2", "does not take '--workers'"),
+                        ("--turns 1 --turns=2", "does not take '--turns=2' twice"),
+                        ("--turns", "a value is missing: '--turns'"),
+                        ("--turns x", "a wrong value: '--turns x'"),
+                        ("--turns=-1", "a wrong value: '--turns -1'")):
+        done = bench.opt(SUM, "wrong-sub", "-tv-in-process", "-tv-args=" + words, plugin=STAND_IN)
+        within(said, done.stderr, words)
+        equal((done.returncode, done.stdout), (1, ""), f"status and output with {words}")
+    for words in ("-tv-seconds=3", "-tv-program=" + bench.tv):
+        done = bench.opt(SUM, "wrong-sub", "-tv-in-process", words, plugin=STAND_IN)
+        within("-tv-in-process goes without " + words.split("=")[0], done.stderr, words)
+        equal(done.returncode, 1, f"the status with {words}")
+
+
+def answers_in_process(bench):
+    """Each status of the library gives its row; a long report is asked for again."""
+    for body, row in (("exit 8", "failed status 8"), ("exit 0", "failed no row"),
+                      ("echo too long source; exit 6", "failed status 6: too long source"),
+                      ('for at; do :; done; echo "$at:3:1: no item"; exit 9',
+                       "refused target no-item 3:1")):
+        done = bench.opt(SUM, "wrong-sub", "-tv-in-process", plugin=STAND_IN,
+                         TV=bench.program("fails", body + "\n"))
+        within(f"tv: SubtractPass @sum {row}", done.stderr, body)
+        equal(done.returncode, 0, f"the status after {body}")
+    long = bench.program("long", "echo 'tv 1'; echo '@sum incorrect'; "
+                         "yes '  arg 0 = 1' | head -n 20000; echo incorrect 1; exit 1\n")
+    done = bench.opt(SUM, "wrong-sub", "-tv-in-process", "-tv-functions=sum", plugin=STAND_IN,
+                     TV=long, STAND_IN_LOG="log")
+    equal(done.stderr.count("  arg 0 = 1\n"), 20000, "the lines of a long report")
+    with open(bench.path("log")) as file:
+        equal([int(line.split()[-1]) > 65536 for line in file], [False, True], "the rooms")
+
+
 # Nothing changes.
 
 def same_bytes(bench):
@@ -294,6 +428,11 @@ def module_with_debug(bench):
         bench.run(CLANG, "-O1", "-g", "-Xclang", "-disable-llvm-passes", "-S", "-emit-llvm", CODE,
                   "-o", path)
     return path
+
+
+def module_of_code(bench):
+    return bench.run(CLANG, "-O1", "-Xclang", "-disable-llvm-passes", "-S", "-emit-llvm", CODE,
+                     "-o", "-").stdout
 
 
 def clang_by_variable(bench):
@@ -327,10 +466,12 @@ def strange_code(bench):
 
 
 CASES = [pairs_have_their_rows, pairs_are_the_same_backwards, same_row_in_both, lowered_alone,
+         one_variable,
          layouts, wrong_pass_is_found, flags_alone_are_seen, module_pass_is_seen,
          only_named_functions,
          exits_on_error, report_is_read_by_baseline, pairs_are_kept, slow_pair, failing_tv,
-         missing_tv, same_bytes, clang_by_variable, strange_code, integers]
+         missing_tv, same_rows_in_process, no_library, options_in_process, answers_in_process,
+         same_bytes, clang_by_variable, strange_code, integers]
 
 
 def missing():
@@ -352,7 +493,9 @@ def tv_program():
 
 def build():
     source = os.path.join(TREE, "llvm")
-    for command in (["cmake", "-S", source, "-B", BUILD, "-DTV_LLVM_TESTS=ON"],
+    library = LIBRARY if os.path.exists(LIBRARY) else ""
+    for command in (["cmake", "-S", source, "-B", BUILD, "-DTV_LLVM_TESTS=ON",
+                     f"-DTV_LIBRARY={library}"],
                     ["cmake", "--build", BUILD]):
         done = subprocess.run(command, capture_output=True, text=True)
         if done.returncode:
