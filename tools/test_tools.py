@@ -161,6 +161,38 @@ def check_two(bench):
     has(bench.file("base"), "f @calls refused source Unsupported\n", "f @never vacuous\n")
 
 
+FIRST = "".join(REPORT.splitlines(True)[:7]).replace("seconds 10\n", "seconds 10 first\n") + (
+    "correct 1 incorrect 1 unknown 0 refused 0 signature 0 missing 0 extra 0\n")
+
+
+def check_first(bench):
+    bench.write("after.ll", bench.passes("double,wrong", ARITH))
+    for jobs in "1", "2", "4":
+        done = bench.run("tv-check", ARITH, "after.ll", "--first", "-j", jobs, "--json=rows")
+        equal((done.returncode, done.stdout, done.stderr), (1, FIRST, ""), f"answer to -j {jobs}")
+        equal(bench.file("rows").count("\n"), 2, "objects of the rows")
+    done = bench.run("tv-check", "--opt", "-passes=double", ARITH, "--first", "-f", "twice")
+    equal(done.returncode, 0, "status where none is incorrect")
+    has(done.stdout, "seconds 10 first\n@twice correct\ncorrect 1 incorrect 0 ")
+
+
+def check_first_and_slow(bench):
+    slow, others = open(SLOW).read(), open(ARITH).read()
+    bench.write("last.ll", others + "\n" + slow)
+    bench.write("first.ll", slow + "\n" + others)
+    for name in "last", "first":
+        bench.write(f"{name}_after.ll", bench.passes("double,wrong", f"{name}.ll"))
+    log = os.path.join(bench.folder, "log")
+    done = bench.run("tv-check", "last.ll", "last_after.ll", "--first", "-j", "1", FAKE_TV_LOG=log)
+    equal((done.stdout, bench.file("log").count("\n")), (FIRST, 3),
+          "report and runs of tv: two pairs, and how far the correct one reaches")
+    done = bench.run("tv-check", "last.ll", "last_after.ll", "--first", "-j", "6", "--seconds", "100")
+    equal(done.stdout, FIRST.replace("seconds 10", "seconds 100"), "a slow function after it")
+    done = bench.run("tv-check", "first.ll", "first_after.ll", "--first", "-j", "6", "--seconds", "2")
+    wanted = FIRST.replace("seconds 10 first\n", "seconds 2 first\n@slow unknown time\n")
+    equal(done.stdout, wanted.replace("unknown 0", "unknown 1"), "a slow function before it")
+
+
 def check_src_and_tgt(bench):
     text = "define i8 @src(i8 %x) {\n  %r = add i8 %x, %x\n  ret i8 %r\n}\n"
     good = text.replace("src", "tgt").replace("add i8 %x, %x", "shl i8 %x, 1")
@@ -1036,6 +1068,7 @@ def llvm_reads_printed(bench):
 
 # tv-proof and lrat.py.
 
+LIMITS = "turns 4 blocks 2 bytes 8 rounds 64 conflicts 0 weight 100000\n"
 PARTS = """@f correct variables 1 clauses 2 steps 1 refuted yes
 @"a b" incorrect variables 3 clauses 5 steps 3 refuted yes
 parts 2 passed 2 failed 0
@@ -1044,7 +1077,7 @@ parts 2 passed 2 failed 0
 
 def proof_parts(bench):
     done = bench.run("tv-proof", PROOF, "-o", "parts", "--no-solvers")
-    equal((done.returncode, done.stdout, done.stderr), (0, PARTS, ""), "status and output")
+    equal((done.returncode, done.stdout, done.stderr), (0, LIMITS + PARTS, ""), "status and output")
     equal(bench.file("parts", "1-f.cnf"), "p cnf 1 2\n1 0\n-1 0\n", "clauses")
     equal(bench.file("parts", "1-f.lrat"), "3 0 2 1 0\n", "log")
     # Resolving clause 1 with 2 and 3 gives clause 1 again; 2 is true where 1 is false.
@@ -1052,6 +1085,12 @@ def proof_parts(bench):
     for stem in ("1-f", "2-_a_b_"):
         done = bench.run("lrat.py", f"parts/{stem}.cnf", f"parts/{stem}.lrat")
         equal(done.returncode, 0, f"status of lrat.py on {stem}")
+
+
+def first_format(bench):
+    bench.write("first", open(PROOF).read().replace("tvproof 2\n" + LIMITS, "tvproof 1\n"))
+    done = bench.run("tv-proof", "first", "--no-solvers")
+    equal((done.returncode, done.stdout, done.stderr), (0, PARTS, ""), "status and output")
 
 
 def wrong_logs(bench):
@@ -1067,8 +1106,12 @@ def wrong_logs(bench):
 
 def no_proof_files(bench):
     proof = open(PROOF).read()
-    for text, line in (("", 1), ("tvproof 2\n", 1), (proof.replace("log 1", "log 2"), 8),
-                       (proof.replace("p cnf 1 2", "p cnf 1 02"), 3), (proof[:-1], 18)):
+    for text, line in (("", 1), ("tvproof 3\n", 1), ("tvproof 2\n", 2),
+                       (proof.replace("tvproof 2", "tvproof 1"), 2),
+                       (proof.replace("blocks 2", "blocks 02"), 2),
+                       (proof.replace("conflicts 0", f"conflicts {2**63}"), 2),
+                       (proof.replace("log 1", "log 2"), 9),
+                       (proof.replace("p cnf 1 2", "p cnf 1 02"), 4), (proof[:-1], 19)):
         bench.write("other", text)
         done = bench.run("tv-proof", "other", "--no-solvers")
         wanted = f"tv-proof: other:{line}: not a line of a proof file\n"
@@ -1092,7 +1135,7 @@ def solvers_agree(bench):
     done = bench.run("tv-proof", PROOF)
     equal(done.returncode, 0, "status")
     found = list(filter(shutil.which, SOLVERS))
-    for line in done.stdout.splitlines()[:2]:
+    for line in done.stdout.splitlines()[1:3]:
         has(line, *(f"{solver} unsat" for solver in found))
     bench.write("sat", "tvproof 1\nrow @f correct\np cnf 2 1\n1 -2 0\nlog 0\n")
     done = bench.run("tv-proof", "sat")
@@ -1137,7 +1180,7 @@ def proof_text(bench):
     status, report = proved(bench, "fresh")
     equal(status, 0, f"status of {report}")
     text = bench.file("fresh")
-    has(text, "tvproof 1\n")
+    has(text, "tvproof 2\n" + LIMITS)
     os.remove(os.path.join(bench.folder, "fresh"))
     return text
 
@@ -1329,16 +1372,17 @@ def most_functions(bench):
         equal(found, (1, wanted), f"answer of {workers} workers")
 
 
-EVERY = [check_two, check_src_and_tgt, check_forms, check_refusals, reduced_pair, opt_output_is_passed_on, opt_gate, opt_changed_names, opt_steps, tree_totals,
+EVERY = [check_two, check_first, check_src_and_tgt, check_forms, check_refusals, reduced_pair, opt_output_is_passed_on, opt_gate, opt_changed_names, opt_steps, tree_totals,
          vacuous_rows, pages]
 REAL_ONLY = [proof_of_tv, check_bounds, check_layout, check_words, figures, trace_of_tv]
 FAKE_ONLY = [help_is_one_screen, quick_without_rt, check_folders, check_front, check_before,
-             check_limit, check_interrupted, check_trace,
+             check_limit, check_interrupted, check_first_and_slow, check_trace,
              check_terminal, reduced_with_arguments, opt_reads_standard_input, opt_failure_is_passed_on, opt_not_text,
              opt_judges_nothing, opt_same, opt_asks_once, opt_summary,
              opt_without_tv, opt_slow_pair, opt_whole_refusal, tree_by_lines, tree_resumes,
              tree_time_out, tree_stopped, tree_bad_folder, reduced, nothing_to_reduce, baseline,
-             baseline_of_lines, lower_without_plugin, baseline_of_tree, proof_parts, wrong_logs, no_proof_files, wrong_lrat]
+             baseline_of_lines, lower_without_plugin, baseline_of_tree, proof_parts, first_format,
+             wrong_logs, no_proof_files, wrong_lrat]
 PUTS = [put_beside_a_file, put_beside_no_file, put_with_all_names_taken, put_to_a_pipe,
         put_to_a_device, put_through_a_link, put_keeps_permissions, put_leaves_hard_links,
         put_to_the_longest_name, put_in_a_closed_folder]
