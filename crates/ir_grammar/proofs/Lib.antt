@@ -1,4 +1,5 @@
 pub mod Common
 pub mod PlainGrammar
 pub mod SmallArrays
+pub mod Alignments
 pub mod Closers

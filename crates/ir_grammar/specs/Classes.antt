@@ -29,7 +29,7 @@ use Rattle.ir_words.specs.declared.written.WrittenLiteral.{WrittenLiteral}
 use Rattle.ir_words.specs.Numbers.{width_of, is_negative, magnitude, wrapped}
 use Rattle.ir_words.specs.Reasons.{reason, type_reason}
 use Rattle.ir_words.specs.Words.{is_word_of, is_mark_of, line_word_of, terminator_of, predicate_of, flag_text}
-use Rattle.ir_words.specs.Spelling.{local_of, global_of, named_at, width_in, width_or_one, int_typed_at, is_width, type_in, typed_at, is_type, memory_type_in, type_at, pointer_in, fits_object, number_of_kind, is_alignment, is_length, bit_at, width_reason, is_void, return_type_of, value_in, operand_at, literal_value, literal_at, fits_bits, fits_type, is_attached, is_numbered, is_metadata_of, is_comdat_kind}
+use Rattle.ir_words.specs.Spelling.{local_of, global_of, named_at, width_in, width_or_one, int_typed_at, is_width, type_in, typed_at, is_type, type_at, pointer_in, fits_object, number_of_kind, is_alignment, is_length, bit_at, width_reason, is_void, return_type_of, value_in, operand_at, literal_value, literal_at, fits_bits, fits_type, is_attached, is_numbered, is_metadata_of, is_comdat_kind}
 
 -- where a text begins
 abbrev pub start : Place
@@ -101,13 +101,9 @@ pub bit_fits : bit_at (width_in (token kind.Word (codes "i1"))) start ≡ Some s
 unfolding width_of
 bit_fits = refl
 
--- a type of what is in memory
-abbrev pub memory_type : Class WrittenType
-memory_type = record { stands = λ t. type_at (memory_type_in t) t.place; within = any; reason = width_reason; sample = token kind.Word (codes "ptr"); value = record { of_type = Ptr; at = start }; fits = refl }
-
 -- the element of nested arrays of these lengths, the outermost first, of an alloca or of another instruction
 abbrev pub element_type : Bool → List ℕ → Class WrittenType
-element_type in_alloca lengths = record { stands = λ t. type_at (memory_type_in t) t.place; within = λ t. fits_object in_alloca lengths (memory_type_in t); reason = width_reason; sample = token kind.Word (codes "ptr"); value = record { of_type = Ptr; at = start }; fits = refl }
+element_type in_alloca lengths = record { stands = λ t. typed_at (type_in t) t.place; within = λ t. fits_object in_alloca lengths (type_in t); reason = type_reason; sample = token kind.Word (codes "ptr"); value = record { of_type = Ptr; at = start }; fits = refl }
 
 abbrev pub pointer_type : Class WrittenType
 pointer_type = record { stands = λ t. type_at (pointer_in t) t.place; within = any; reason = width_reason; sample = token kind.Word (codes "ptr"); value = record { of_type = Ptr; at = start }; fits = refl }

@@ -62,7 +62,7 @@ use Rattle.ir_words.specs.declared.written.WrittenLine.{WrittenLine}
 use Rattle.ir_words.specs.declared.written.WrittenLine.TheVariants as line
 use Rattle.ir_words.specs.Words.{is_word_of, is_mark_of, no_flags, wrapping_op, exact_op}
 use Rattle.ir_words.specs.Spelling.{wrap_of, gep_flag_of}
-use Rattle.ir_grammar.specs.Classes.{any, word, mark, counted_mark, as_mark, local, int_type, value_type, memory_type, element_type, pointer_type, array_length, alignment, bit_type, operand_class, line_word, predicate_class, flag_word, attachment_word, attachment_or_type, metadata_number}
+use Rattle.ir_grammar.specs.Classes.{any, word, mark, counted_mark, as_mark, local, int_type, value_type, element_type, pointer_type, array_length, alignment, bit_type, operand_class, line_word, predicate_class, flag_word, attachment_word, attachment_or_type, metadata_number}
 
 -- ---- what may be repeated, and what may be left out
 
@@ -353,7 +353,7 @@ alloca name number = do
 -- type, ptr value
 unfoldable pub load : WrittenName → Form never WrittenLine
 load name = do
-  type ← one memory_type
+  type ← one value_type
   comma ← one (mark (codes ",") refl)
   from ← pointer
   give (line.Access (access.Load name type from))
@@ -361,7 +361,7 @@ load name = do
 -- type value, ptr value
 unfoldable pub store : Form never WrittenLine
 store = do
-  type ← one memory_type
+  type ← one value_type
   value ← one (operand_class false type.of_type)
   comma ← one (mark (codes ",") refl)
   to ← pointer
@@ -375,7 +375,7 @@ gep name = do
   base ← pointer
   give (line.Indices (record { into = name; flags = object.0; of_type = object.1; base = base; indices = [] }))
 
--- the alignment of an instruction where none is written: the size of its type, or of the type's innermost element
+-- the alignment of an instruction where none is written: that of its type, or of the type's innermost element
 abbrev pub default_align : WrittenAccess → ℕ
 default_align (access.Alloca into number type) = type_align type.of_type.element
 default_align (access.Load into type from) = type_align type.of_type

@@ -19,7 +19,7 @@ use ir_words::{
 };
 use token_forms::ReadFault;
 
-/// The alignment of an instruction where none is written: the size of its type, or of the type's
+/// The alignment of an instruction where none is written: that of its type, or of the type's
 /// innermost element.
 pub fn default_align(access: &WrittenAccess) -> u64
     ensures { result ≡ spec.default_align access.now }
@@ -75,7 +75,7 @@ impl<'a, 'b> Cursor<'a, 'b> {
     pub fn load(&mut self, into: WrittenName) -> Result<WrittenLine, ReadFault>
         ensures { Reads (λ x. x) result self.new (read true (spec.load into) self.old) }
     {
-        let of_type = self.memory_type()?;
+        let of_type = self.value_type()?;
         self.mark(b",".as_slice())?;
         let pointer = self.pointer()?;
         Ok(WrittenLine::Access(WrittenAccess::Load {
@@ -90,7 +90,7 @@ impl<'a, 'b> Cursor<'a, 'b> {
     pub fn store(&mut self) -> Result<WrittenLine, ReadFault>
         ensures { Reads (λ x. x) result self.new (read true spec.store self.old) }
     {
-        let of_type = self.memory_type()?;
+        let of_type = self.value_type()?;
         let operand = self.operand(false, of_type.of_type)?;
         self.mark(b",".as_slice())?;
         let pointer = self.pointer()?;

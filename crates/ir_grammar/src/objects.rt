@@ -15,7 +15,7 @@ use ir_lexer::{Kind, Token};
 use ir_tree::{IrType, MemoryType, Reason, type_align};
 use ir_words::{
     GepFlags, WrittenArrays, WrittenObject, WrittenType, array_length, is_spelled, is_word,
-    reason_at, type_in, width_reason_at,
+    reason_at, type_in, type_reason_at,
 };
 use token_forms::ReadFault;
 
@@ -32,34 +32,6 @@ const NO_GEP_FLAGS: GepFlags = GepFlags {
     inbounds: false,
     nuw: false,
 };
-
-fn is_memory_type(of_type: IrType) -> bool
-    ensures { result ≡ spelling.is_memory_type of_type }
-{
-    match of_type {
-        IrType::Int(width) => {
-            width.bits() == 8 || width.bits() == 16 || width.bits() == 32 || width.bits() == 64
-        }
-        IrType::Ptr => true,
-    }
-}
-
-// The type of what is in memory that a token spells, if it spells one.
-fn memory_type_in(token: &Token) -> Option<IrType>
-    ensures { result ≡ spelling.memory_type_in token.now }
-{
-    let Some(found) = type_in(token) else {
-        return None;
-    };
-    let Some(of_type) = found else {
-        return None;
-    };
-    if is_memory_type(of_type) {
-        Some(of_type)
-    } else {
-        None
-    }
-}
 
 // The bytes of nested arrays, or one more than the most of an alloca where they have more.
 fn capped_size(lengths: &[u64], element: IrType) -> u64
@@ -143,21 +115,6 @@ fn object_of(arrays: WrittenArrays, element: WrittenType) -> WrittenObject
 }
 
 impl<'a, 'b> Cursor<'a, 'b> {
-    /// Reads a type of what is in memory.
-    pub fn memory_type(&mut self) -> Result<WrittenType, ReadFault>
-        ensures { Reads (λ x. x) result self.new (one_of true class.memory_type self.old) }
-    {
-        let [first, rest @ ..] = self.left() else {
-            return Err(ReadFault::Unfit(Reason::Syntax));
-        };
-        let Some(of_type) = memory_type_in(first) else {
-            return Err(ReadFault::Unfit(width_reason_at(first)));
-        };
-        self.go_to(rest);
-        let at = first.place();
-        Ok(WrittenType { of_type, at })
-    }
-
     // Reads the element of nested arrays of these lengths, where these are small enough.
     fn element_type(&mut self, in_alloca: bool, lengths: &[u64]) -> Result<WrittenType, ReadFault>
         ensures { Reads (λ x. x) result self.new (one_of true (class.element_type in_alloca lengths.now) self.old) }
@@ -165,8 +122,11 @@ impl<'a, 'b> Cursor<'a, 'b> {
         let [first, rest @ ..] = self.left() else {
             return Err(ReadFault::Unfit(Reason::Syntax));
         };
-        let Some(of_type) = memory_type_in(first) else {
-            return Err(ReadFault::Unfit(width_reason_at(first)));
+        let Some(found) = type_in(first) else {
+            return Err(ReadFault::Unfit(type_reason_at(first)));
+        };
+        let Some(of_type) = found else {
+            return Err(ReadFault::PastLimit);
         };
         if !is_small_object(in_alloca, lengths, of_type) {
             return Err(ReadFault::PastLimit);

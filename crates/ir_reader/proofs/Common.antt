@@ -1,6 +1,6 @@
 -- What proofs of this crate cite of std, of other crates and of its definitions, passed on from one place. Declares nothing.
-pub use Rattle.std.proofs.Common.{◌≡◌, ◌⊎◌, inl, inr, true, false, List, [], ◌∷◌, ◌++◌, refl, sym, ap, subst, ◌∙◌, append_assoc, ℕ, zero, suc, ◌+◌, ◌-◌, ◌<◌, ◌≤◌, Bool, ltb, cond, length, Option, Some, None, arith, get_or, eqb, drop, map, codes}
-pub use Rattle.std.proofs.lemmas.Bool.{ltb-true, lt-leb, cases_lt, leb-true, eqb-true, or_parts}
+pub use Rattle.std.proofs.Common.{◌≡◌, ◌⊎◌, inl, inr, true, false, List, [], ◌∷◌, ◌++◌, refl, sym, ap, subst, ◌∙◌, append_assoc, ℕ, zero, suc, ◌+◌, ◌-◌, ◌<◌, ◌≤◌, Bool, ltb, cond, length, Option, Some, None, arith, get_or, drop, map, codes}
+pub use Rattle.std.proofs.lemmas.Bool.{ltb-true, lt-leb, cases_lt, leb-true, or_parts}
 pub use Rattle.std.proofs.lemmas.List.{append-nil, append_cancel_right, length-append, drop-drop, take_all}
 pub use Rattle.std.proofs.lemmas.List.Elements.{All-nil, All-cons, Contains-append_left, Contains-append_right}
 pub use Rattle.std.proofs.lemmas.Result.{err_from_is_err_and}
@@ -9,13 +9,13 @@ unfoldable pub use Rattle.std.specs.List.{IsDistinct}
 pub use Rattle.std.specs.Prelude.{◌&&◌, ◌||◌, not, Result, Ok, nat_le, nat_eq, Err, slice_get, IsOkAnd, min, ◌==◌, if◌then◌else◌, nat_lt, is_some}
 pub use Rattle.std.specs.Str.{bytes_eq}
 pub use Rattle.std.specs.Vec.Iter.{into_iter_items}
-pub use Rattle.ir_grammar.specs.Classes.{any, token, start, bit_fits, int_type, counted_type, memory_type, element_type, pointer_type, bit_type, return_type, operand_class, literal_class, line_word, flag_word}
+pub use Rattle.ir_grammar.specs.Classes.{any, token, start, bit_fits, int_type, counted_type, element_type, pointer_type, bit_type, return_type, operand_class, literal_class, line_word, flag_word}
 pub use Rattle.ir_grammar.specs.Grammar.{follows_parameter, parameter_begins, with_part, is_comma, is_local_kind, starts_line, line_begins, line_within, next_number, started, line_comma, with_comma, with_phi, with_inst, with_line, is_type, case_begins, case_within, terminator_by, body_of, begins_block, block_begins, with_header, returned_by, most_parameters}
 unfoldable pub use Rattle.ir_grammar.specs.Grammar.{define, parameter_parts, first_parameter, parameters, whole_line, next_line, lines, with_case, cases, branch, branch_to, cond_branch, switch, return_of, block, entry_block, next_block, blocks, prefixes, comdat_rest, debug_rest, header_parts, attachment, record_rest, returned, target, attachments}
 pub use Rattle.ir_grammar.specs.Instructions.{default_align, line_by, is_square, array_begins, array_within, inst_by, closers}
 unfoldable pub use Rattle.ir_grammar.specs.Instructions.{inst_line, phi, alloca, load, store, gep, line_named, entry_or_attachment, next_entry, attached, align_or_attachment, aligned, index_or_attachment, next_index, with_length, arrays, alloca_object, gep_arrays, gep_object, binary, cast_by, wrapping, exact, plain, disjunction, icmp, truncate, zero_extend, sign_extend, select, freeze, wraps, flagged_type, comparison, typed, arm, entry, gep_flags, pointer}
 pub use Rattle.ir_words.specs.Reasons.{reason, type_reason}
-pub use Rattle.ir_words.specs.Spelling.{named_at, label_line, is_record, line_start, is_memory_type, memory_type_of, memory_type_in, type_in, type_at, fits_object, is_small_object, number_of_kind, is_alignment, width_reason, width_in, width_reason_of, int_typed_at, typed_at, int_type_in, is_pointer, is_void, returned_at, truth_value, operand_at, literal_at}
+pub use Rattle.ir_words.specs.Spelling.{named_at, label_line, is_record, line_start, type_in, fits_object, is_small_object, number_of_kind, is_alignment, width_reason, width_in, width_reason_of, int_typed_at, typed_at, int_type_in, is_pointer, is_void, returned_at, truth_value, operand_at, literal_at}
 pub use Rattle.ir_words.specs.declared.word.LineStart.{LineStart}
 pub use Rattle.ir_words.specs.declared.word.LineWord.{LineWord}
 pub use Rattle.ir_words.specs.declared.word.Opcode.{Opcode}
@@ -48,7 +48,7 @@ pub use Rattle.ir_tree.specs.Limits.{instructions_of, cases_in, HasFewCases, Has
 pub use Rattle.ir_tree.specs.Names.{with_name, number_of, same_name}
 pub use Rattle.ir_tree.specs.Sites.{operand_site, index_sites, indices_sites, inst_sites, no_place, AreNumbered}
 unfoldable pub use Rattle.ir_tree.specs.Sites.{steps}
-pub use Rattle.ir_tree.specs.Types.{type_align, object_size, nested_size, one_bit}
+pub use Rattle.ir_tree.specs.Types.{object_size, nested_size, one_bit}
 pub use Rattle.ir_tree.specs.WellFormed.{IsWellFormed, ComesFromPredecessors, IsUnfitPhi, JumpsToEntry, HasWrongEdge, IsMissed, IsMissedBehind, IsMissedAt, UsesUnassigned, Passes, IsRefusedAt, PassesNames, IfRefused}
 pub use Rattle.ir_tree.specs.declared.module.Entry.{Entry}
 pub use Rattle.ir_tree.specs.declared.module.Reason.{Reason}

@@ -24,7 +24,8 @@ use Rattle.ir_words.specs.Words.{is_word_of}
 use Rattle.ir_reader.specs.Judgeable.{IsJudgeable, IsJudgeableEntry}
 use Rattle.ir_reader.proofs.Placed.{well_formed-placed}
 use Rattle.ir_reader.proofs.Objects.{IsSmallAccess, IsSmallGep, IsReadInst, IsJudgeableBlock, block-judgeable, blocks-small, blocks-undefs}
-use Rattle.ir_reader.proofs.Spelled.{memory-aligned, alignment-kept, default-aligned, alloca-small, gep-small, plain-known}
+use Rattle.ir_grammar.proofs.Alignments.{default-aligned}
+use Rattle.ir_reader.proofs.Spelled.{alignment-kept, alloca-small, gep-small, plain-known}
 
 and-first : (a b : Bool) → (a && b) ≡ true → a ≡ true
 and-first true b e = refl
@@ -88,8 +89,8 @@ IsInstStart start.Record = ⊥
 named-of : (number : ℕ) (name : WrittenName) (w : LineWord) (l : WrittenLine) (ts rest : List Lexeme) → number < 65536 → Spells true (line_by number name w) l ts rest → IsInstLine l
 unfolding inst_line phi alloca load gep
 named-of number name word_of.Phi l ts rest below (type, m1, t1, (opening, m2, t2, (first, m3, E, (same, left)))) = subst (λ (x : WrittenLine). IsInstLine x) same (omega arith)
-named-of number name word_of.Alloca l ts rest below (object, m1, O, (same, left)) = let small = alloca-small object ts m1 O in subst (λ (x : WrittenLine). IsInstLine x) same (below, small.0, small.1, small.2)
-named-of number name word_of.Load l ts rest below (type, m1, T, (comma, m2, t2, (from, m3, P, (same, left)))) = subst (λ (x : WrittenLine). IsInstLine x) same (memory-aligned T.first type T.stands_for)
+named-of number name word_of.Alloca l ts rest below (object, m1, O, (same, left)) = let small = alloca-small object ts m1 O in subst (λ (x : WrittenLine). IsInstLine x) same (below, small.0, small.1)
+named-of number name word_of.Load l ts rest below (type, m1, T, (comma, m2, t2, (from, m3, P, (same, left)))) = subst (λ (x : WrittenLine). IsInstLine x) same tt
 named-of number name word_of.GetElementPtr l ts rest below (object, m1, O, (comma, m2, t2, (base, m3, P, (same, left)))) = subst (λ (x : WrittenLine). IsInstLine x) same (gep-small object ts m1 O)
 named-of number name (word_of.Inst o) l ts rest below (i, mid, I, (same, left)) = subst (λ (x : WrittenLine). IsInstLine x) same (plain-known name o i ts mid I)
 
@@ -97,7 +98,7 @@ started-of : (phi_too : Bool) (number : ℕ) (a : LineStart) (l : WrittenLine) (
 unfolding line_named store
 started-of phi_too number (start.Label name) l ts rest below (same, left) = subst (λ (x : WrittenLine). IsLineOf (start.Label name) x) same tt
 started-of phi_too number (start.Inst name) l ts rest below (equals, m1, t1, (w, m2, t2, S)) = named-of number name w l m2 rest (below tt) S
-started-of phi_too number start.Store l ts rest below (type, m1, T, (value, m2, t2, (comma, m3, t3, (to, m4, P, (same, left))))) = subst (λ (x : WrittenLine). IsInstLine x) same (memory-aligned T.first type T.stands_for)
+started-of phi_too number start.Store l ts rest below (type, m1, T, (value, m2, t2, (comma, m3, t3, (to, m4, P, (same, left))))) = subst (λ (x : WrittenLine). IsInstLine x) same tt
 started-of phi_too number start.Record l ts rest below (u, mid, R, (same, left)) = subst (λ (x : WrittenLine). IsLineOf start.Record x) same tt
 
 comma-inst : (l next : WrittenLine) (ts rest : List Lexeme) → Spells true (with_comma l) next ts rest → IsInstLine l → IsInstLine next
@@ -109,7 +110,7 @@ comma-inst (line.Entries p) next ts rest (inl (opening, mid, T, (more, m2, E, (s
     subst (λ (x : WrittenLine). IsInstLine x) same (omega (arith, room, length-append p.entries (more ∷ [])))
 comma-inst (line.Entries p) next ts rest (inr (nothing, w, mid, T, (number, m2, N, (same, left)))) h = subst (λ (x : WrittenLine). IsInstLine x) same h
 comma-inst (line.Access a) next ts rest (inl (w, mid, T, (n, m2, N, (same, left)))) h = subst (λ (x : WrittenLine). IsInstLine x) same (h, alignment-kept N.first n N.stands_for N.keeps)
-comma-inst (line.Access a) next ts rest (inr (nothing, w, mid, T, (number, m2, N, (same, left)))) h = subst (λ (x : WrittenLine). IsInstLine x) same (h, default-aligned a h)
+comma-inst (line.Access a) next ts rest (inr (nothing, w, mid, T, (number, m2, N, (same, left)))) h = subst (λ (x : WrittenLine). IsInstLine x) same (h, default-aligned a)
 comma-inst (line.Indices g) next ts rest (inl (type, mid, T, (value, m2, V, (same, left)))) h = subst (λ (x : WrittenLine). IsInstLine x) same h
 comma-inst (line.Indices g) next ts rest (inr (nothing, w, mid, T, (number, m2, N, (same, left)))) h = subst (λ (x : WrittenLine). IsInstLine x) same h
 comma-inst (line.Phi p) next ts rest (u, mid, A, (same, left)) h = subst (λ (x : WrittenLine). IsInstLine x) same h
@@ -188,7 +189,7 @@ next-inst : (room : ℕ) (s : WrittenLines) (l : WrittenLine) → IsInstLine l �
 next-inst room s (line.Label name) h some F = absurd h
 next-inst room s line.Record h some F = absurd h
 next-inst room s (line.Entries phi) h some F = phi-few-lines room s phi h some F
-next-inst room s (line.Access a) h some F = inst-few-lines room s (inst.Access a (default_align a)) (h, default-aligned a h) some F
+next-inst room s (line.Access a) h some F = inst-few-lines room s (inst.Access a (default_align a)) (h, default-aligned a) some F
 next-inst room s (line.Indices g) h some F = inst-few-lines room s (inst.GetElementPtr g) h some F
 next-inst room s (line.Phi phi) h some F = phi-few-lines room s phi h some F
 next-inst room s (line.Inst i) h some F = inst-few-lines room s i h some F

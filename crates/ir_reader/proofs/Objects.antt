@@ -1,5 +1,5 @@
 -- What is numbered has small objects, its allocas have small numbers, and undef is an operand only where it may be.
-use Rattle.ir_reader.proofs.Common.{◌≡◌, ℕ, zero, suc, ◌+◌, ◌<◌, ◌≤◌, ◌⊎◌, inl, inr, Bool, true, false, List, [], ◌∷◌, length, get_or, refl, sym, ap, subst, arith, nat_le, AllByRecursion, Contains, lt-leb, cases_lt, All-nil, All-cons, Contains-append_left, Contains-append_right, IsAlignment, HasSmallArrays, HasSmallTypes, HasSmallObjects, HasSmallNumber, type_align, object_size, with_name, number_of, Name, Inst, Block, Function, Int, Ptr, TypeClash, operand_site, index_sites, indices_sites, inst_sites, Passes, WrittenInst, WrittenAccess, WrittenGep, WrittenBody, so, each_in, value_in, typed_in, binary_in, icmp_in, cast_in, select_in, freeze_in, alloca_in, load_in, store_in, index_in, gep_in, inst_in, phi_in, terminator_in, block_in, then-so, block_with}
+use Rattle.ir_reader.proofs.Common.{◌≡◌, ℕ, zero, suc, ◌+◌, ◌<◌, ◌≤◌, ◌⊎◌, inl, inr, Bool, true, false, List, [], ◌∷◌, length, get_or, refl, sym, ap, subst, arith, nat_le, AllByRecursion, Contains, lt-leb, cases_lt, All-nil, All-cons, Contains-append_left, Contains-append_right, IsAlignment, HasSmallArrays, HasSmallTypes, HasSmallObjects, HasSmallNumber, object_size, with_name, number_of, Name, Inst, Block, Function, Int, Ptr, TypeClash, operand_site, index_sites, indices_sites, inst_sites, Passes, WrittenInst, WrittenAccess, WrittenGep, WrittenBody, so, each_in, value_in, typed_in, binary_in, icmp_in, cast_in, select_in, freeze_in, alloca_in, load_in, store_in, index_in, gep_in, inst_in, phi_in, terminator_in, block_in, then-so, block_with}
 use Rattle.std.proofs.Common.{All}
 use Rattle.std.specs.Prelude.{Some}
 use Rattle.std.proofs.lemmas.Option.{slice_get-get_or}
@@ -18,11 +18,11 @@ use Rattle.ir_reader.proofs.Undefs.{FitsArms, HasWrittenArms, binary-numbered, d
 
 -- ---- what is written
 
--- an alloca's number, and what its own alignment is
+-- an alloca's number, and how large what it makes is
 abbrev pub IsSmallAccess : WrittenAccess → Type 0
-IsSmallAccess (access.Alloca into number type) = (number < 65536) × (length type.of_type.lengths ≤ 8) × (object_size type.of_type ≤ 64) × IsAlignment (type_align type.of_type.element)
-IsSmallAccess (access.Load into type from) = IsAlignment (type_align type.of_type)
-IsSmallAccess (access.Store value to) = IsAlignment (type_align value.of_type.of_type)
+IsSmallAccess (access.Alloca into number type) = (number < 65536) × (length type.of_type.lengths ≤ 8) × (object_size type.of_type ≤ 64)
+IsSmallAccess (access.Load into type from) = Unit {0}
+IsSmallAccess (access.Store value to) = Unit {0}
 
 abbrev pub IsSmallGep : WrittenGep → Type 0
 IsSmallGep g = (length g.of_type.of_type.lengths ≤ 8) × HasSmallArrays g.of_type.of_type.lengths g.of_type.of_type.element

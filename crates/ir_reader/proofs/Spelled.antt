@@ -1,45 +1,16 @@
 -- What is spelled of instructions on memory keeps their limits.
-use Rattle.ir_reader.proofs.Common.{◌≡◌, ℕ, zero, suc, ◌<◌, ◌≤◌, Bool, true, false, eqb, cond, List, [], ◌∷◌, length, Option, Some, None, refl, subst, arith, ◌&&◌, ◌||◌, not, nat_eq, list_any, ltb-true, leb-true, eqb-true, length-append, Place, Width, Lexeme, Kind, IsAlignment, HasSmallArrays, alignments, type_align, nested_size, Op, Cast, IrType, Int, Ptr, SpellParts, Spells, Opcode, WrittenName, WrittenIntType, WrittenType, WrittenArrays, WrittenAccess, WrittenInst, is_memory_type, memory_type_of, memory_type_in, type_in, type_at, fits_object, is_small_object, number_of_kind, is_alignment, is_square, array_begins, array_within, with_length, arrays, alloca_object, gep_arrays, gep_object, default_align, binary, cast_by, wrapping, exact, plain, disjunction, icmp, truncate, zero_extend, sign_extend, select, freeze, inst_by}
+use Rattle.ir_reader.proofs.Common.{◌≡◌, ℕ, zero, suc, ◌<◌, ◌≤◌, Bool, true, false, List, [], ◌∷◌, length, Option, Some, None, subst, arith, ◌&&◌, not, nat_eq, list_any, ltb-true, leb-true, length-append, Place, Lexeme, Kind, IsAlignment, HasSmallArrays, alignments, nested_size, Op, Cast, IrType, Int, SpellParts, Spells, Opcode, WrittenName, WrittenIntType, WrittenType, WrittenArrays, WrittenInst, type_in, typed_at, fits_object, is_small_object, number_of_kind, is_alignment, is_square, array_begins, array_within, with_length, arrays, alloca_object, gep_arrays, gep_object, binary, cast_by, wrapping, exact, plain, disjunction, icmp, truncate, zero_extend, sign_extend, select, freeze, inst_by}
 use Rattle.ir_lexer.specs.declared.token.Kind.TheVariants as kind
 use Rattle.ir_words.specs.declared.word.Opcode.TheVariants as opcode
 use Rattle.ir_words.specs.declared.written.GepFlags.{GepFlags}
 use Rattle.ir_words.specs.declared.written.WrittenObject.{WrittenObject}
-use Rattle.ir_words.specs.declared.written.WrittenAccess.TheVariants as access
 use Rattle.ir_words.specs.Numbers.{is_negative, magnitude}
 use Rattle.ir_grammar.specs.Instructions.{is_undef}
 use Rattle.ir_grammar.proofs.SmallArrays.{are-small}
-use Rattle.ir_reader.proofs.Objects.{IsSmallAccess, IsReadInst}
+use Rattle.ir_reader.proofs.Objects.{IsReadInst}
 use Rattle.ir_reader.proofs.Undefs.{binary-spelled, arm-spelled}
 
 -- ---- alignments
-
-some-width : (w : Width) (a b c d : Bool) → eqb w.bits 8 ≡ a → eqb w.bits 16 ≡ b → eqb w.bits 32 ≡ c → eqb w.bits 64 ≡ d → (a || b || c || d) ≡ true → IsAlignment (type_align (Int w))
-some-width w true b c d e f g h some = let is : w.bits ≡ 8 = eqb-true w.bits 8 e in rw is refl
-some-width w false true c d e f g h some = let is : w.bits ≡ 16 = eqb-true w.bits 16 f in rw is refl
-some-width w false false true d e f g h some = let is : w.bits ≡ 32 = eqb-true w.bits 32 g in rw is refl
-some-width w false false false true e f g h some = let is : w.bits ≡ 64 = eqb-true w.bits 64 h in rw is refl
-some-width w false false false false e f g h some = absurd (cc some)
-
--- the size of what is in memory is an alignment
-memory-size : (type : IrType) → is_memory_type type ≡ true → IsAlignment (type_align type)
-memory-size (Int w) e = some-width w (eqb w.bits 8) (eqb w.bits 16) (eqb w.bits 32) (eqb w.bits 64) refl refl refl refl e
-memory-size Ptr e = refl
-
-found-size : (m : Option (Option IrType)) (type : IrType) → memory_type_of m ≡ Some type → IsAlignment (type_align type)
-found-size (Some (Some other)) type e = go (is_memory_type other) refl e
-  where
-    go : (b : Bool) → is_memory_type other ≡ b → cond b (Some other) None ≡ Some type → IsAlignment (type_align type)
-    go true is e' = let same : other ≡ type = cc e' in subst (λ (t : IrType). IsAlignment (type_align t)) same (memory-size other is)
-    go false is e' = absurd (cc e')
-found-size (Some None) type e = absurd (cc e)
-found-size None type e = absurd (cc e)
-
-placed-size : (m : Option IrType) (at : Place) (x : WrittenType) → ((type : IrType) → m ≡ Some type → IsAlignment (type_align type)) → type_at m at ≡ Some x → IsAlignment (type_align x.of_type)
-placed-size None at x sized e = absurd (cc e)
-placed-size (Some type) at x sized e = let same : (let y : WrittenType = record { of_type = type; at = at } in y) ≡ x = cc e in subst (λ (y : WrittenType). IsAlignment (type_align y.of_type)) same (sized type refl)
-
-pub memory-aligned : (t : Lexeme) (x : WrittenType) → type_at (memory_type_in t) t.place ≡ Some x → IsAlignment (type_align x.of_type)
-memory-aligned t x e = placed-size (memory_type_in t) t.place x (λ type is. found-size (type_in t) type is) e
 
 and-second : (a b : Bool) → (a && b) ≡ true → b ≡ true
 and-second true b e = e
@@ -52,11 +23,6 @@ alignment-kept t n e kept = go t.kind e
     go kind.Number e' = let same : magnitude t.text ≡ n = cc e' in subst IsAlignment same (and-second (not (is_negative t.text)) (list_any (nat_eq (magnitude t.text)) alignments) kept)
     go _ e' = absurd (cc e')
 
-pub default-aligned : (a : WrittenAccess) → IsSmallAccess a → IsAlignment (default_align a)
-default-aligned (access.Alloca into number type) small = small.3
-default-aligned (access.Load into type from) small = small
-default-aligned (access.Store value to) small = small
-
 -- ---- nested arrays
 
 parts-nested : (n : ℕ) (s x : WrittenArrays) (ts rest : List Lexeme) → SpellParts true is_square array_begins array_within (λ s' a next inside behind. Spells true (with_length s') next inside behind) n s x ts rest → length s.lengths ≤ 8 → length x.lengths ≤ 8
@@ -66,19 +32,20 @@ parts-nested (suc n) s x ts rest (a, inside, next, behind, T, (many, m1, t1, (ti
     let room : length s.lengths < 8 = ltb-true (length s.lengths) 8 T.keeps in
     parts-nested n next x behind rest more (subst (λ (p : WrittenArrays). length p.lengths ≤ 8) same (omega (arith, room, length-append s.lengths (many ∷ []))))
 
-small-element : (in_alloca : Bool) (lengths : List ℕ) (m : Option IrType) (at : Place) (x : WrittenType) → type_at m at ≡ Some x → fits_object in_alloca lengths m ≡ true → is_small_object in_alloca lengths x.of_type ≡ true
+small-element : (in_alloca : Bool) (lengths : List ℕ) (m : Option (Option IrType)) (at : Place) (x : WrittenType) → typed_at m at ≡ Some x → fits_object in_alloca lengths m ≡ true → is_small_object in_alloca lengths x.of_type ≡ true
 small-element in_alloca lengths None at x e kept = absurd (cc e)
-small-element in_alloca lengths (Some type) at x e kept = let same : (let y : WrittenType = record { of_type = type; at = at } in y) ≡ x = cc e in subst (λ (y : WrittenType). is_small_object in_alloca lengths y.of_type ≡ true) same kept
+small-element in_alloca lengths (Some None) at x e kept = absurd (cc kept)
+small-element in_alloca lengths (Some (Some type)) at x e kept = let same : (let y : WrittenType = record { of_type = type; at = at } in y) ≡ x = cc e in subst (λ (y : WrittenType). is_small_object in_alloca lengths y.of_type ≡ true) same kept
 
 abbrev IsSmallObject : WrittenObject → Type 0
-IsSmallObject o = (length o.of_type.lengths ≤ 8) × (nested_size o.of_type.lengths o.of_type.element ≤ 64) × IsAlignment (type_align o.of_type.element)
+IsSmallObject o = (length o.of_type.lengths ≤ 8) × (nested_size o.of_type.lengths o.of_type.element ≤ 64)
 
 pub alloca-small : (x : WrittenObject) (ts rest : List Lexeme) → Spells true alloca_object x ts rest → IsSmallObject x
 unfolding alloca_object arrays
 alloca-small x ts rest (found, m1, (m2, (s, m3, (first, at), n, P), T), (closed, m4, C, (same, left))) =
     let nested : length found.0.lengths ≤ 8 = parts-nested n s found.0 m3 m2 P (subst (λ (p : WrittenArrays). length p.lengths ≤ 8) first (omega arith)) in
-    let small : nested_size found.0.lengths found.1.of_type ≤ 64 = leb-true (nested_size found.0.lengths found.1.of_type) 64 (small-element true found.0.lengths (memory_type_in T.first) T.first.place found.1 T.stands_for T.keeps) in
-    subst IsSmallObject same (nested, small, memory-aligned T.first found.1 T.stands_for)
+    let small : nested_size found.0.lengths found.1.of_type ≤ 64 = leb-true (nested_size found.0.lengths found.1.of_type) 64 (small-element true found.0.lengths (type_in T.first) T.first.place found.1 T.stands_for T.keeps) in
+    subst IsSmallObject same (nested, small)
 
 abbrev IsSmallNest : WrittenObject → Type 0
 IsSmallNest o = (length o.of_type.lengths ≤ 8) × HasSmallArrays o.of_type.lengths o.of_type.element
@@ -87,7 +54,7 @@ pub gep-small : (x : GepFlags × WrittenObject) (ts rest : List Lexeme) → Spel
 unfolding gep_object gep_arrays
 gep-small x ts rest (found, m1, (m2, (s, m3, (flags, F, first), n, P), T), (closed, m4, C, (same, left))) =
     let nested : length found.0.lengths ≤ 8 = parts-nested n s found.0 m3 m2 P (subst (λ (p : WrittenArrays). length p.lengths ≤ 8) first (omega arith)) in
-    let small : HasSmallArrays found.0.lengths found.1.of_type = are-small found.0.lengths found.1.of_type (small-element false found.0.lengths (memory_type_in T.first) T.first.place found.1 T.stands_for T.keeps) in
+    let small : HasSmallArrays found.0.lengths found.1.of_type = are-small found.0.lengths found.1.of_type (small-element false found.0.lengths (type_in T.first) T.first.place found.1 T.stands_for T.keeps) in
     subst (λ (y : GepFlags × WrittenObject). IsSmallNest y.1) same (nested, small)
 
 -- ---- instructions on values: where undef may be an operand

@@ -1,6 +1,6 @@
 -- Each class of the grammar is of one of two kinds: where it comes next a type is allowed, and its reason looks
 -- for types, or neither.
-use Rattle.ir_reader.proofs.Common.{◌≡◌, ℕ, zero, suc, ◌+◌, inl, inr, Bool, true, false, List, [], ◌∷◌, ◌++◌, length, Option, Some, None, refl, sym, ap, subst, codes, arith, ◌&&◌, not, ◌==◌, if◌then◌else◌, nat_lt, is_some, bytes_eq, Width, Place, Lexeme, IrType, Int, Ptr, Op, Cast, Opcode, LineWord, TerminatorWord, LineStart, ParameterPart, WrittenName, WrittenIntType, WrittenType, WrittenParameters, WrittenLines, WrittenLine, WrittenPhi, WrittenCase, WrittenArrays, WrittenAccess, WrittenGep, reads, read, type_reason, width_in, width_reason, width_reason_of, int_typed_at, typed_at, type_in, int_type_in, is_pointer, is_void, returned_at, truth_value, operand_at, literal_at, token, start, bit_fits, int_type, counted_type, memory_type, element_type, pointer_type, bit_type, return_type, operand_class, literal_class, line_word, flag_word, wraps, flagged_type, comparison, typed, arm, binary, wrapping, exact, plain, disjunction, icmp, cast_by, truncate, zero_extend, sign_extend, select, freeze, inst_by, entry, phi, next_entry, attached, entry_or_attachment, with_length, arrays, closers, alloca_object, gep_flags, gep_arrays, gep_object, pointer, alloca, load, store, gep, aligned, align_or_attachment, next_index, index_or_attachment, inst_line, line_by, line_named, prefixes, with_part, parameter_parts, first_parameter, parameters, comdat_rest, debug_rest, with_header, header_parts, attachment, record_rest, started, with_comma, whole_line, next_line, lines, returned_by, returned, target, cond_branch, branch_to, branch, is_type, with_case, cases, switch, return_of, terminator_by, attachments, block, entry_block, next_block, blocks, define, append-nil, parts, Spells, part_value, part_begins, read_lawful, read-found, one_bit, case_begins, case_within, most_parameters}
+use Rattle.ir_reader.proofs.Common.{◌≡◌, ℕ, zero, suc, ◌+◌, inl, inr, Bool, true, false, List, [], ◌∷◌, ◌++◌, length, Option, Some, None, refl, sym, ap, subst, codes, arith, ◌&&◌, not, ◌==◌, if◌then◌else◌, nat_lt, is_some, bytes_eq, Width, Place, Lexeme, IrType, Int, Ptr, Op, Cast, Opcode, LineWord, TerminatorWord, LineStart, ParameterPart, WrittenName, WrittenIntType, WrittenType, WrittenParameters, WrittenLines, WrittenLine, WrittenPhi, WrittenCase, WrittenArrays, WrittenAccess, WrittenGep, reads, read, type_reason, width_in, width_reason, width_reason_of, int_typed_at, typed_at, type_in, int_type_in, is_pointer, is_void, returned_at, truth_value, operand_at, literal_at, token, start, bit_fits, int_type, counted_type, element_type, pointer_type, bit_type, return_type, operand_class, literal_class, line_word, flag_word, wraps, flagged_type, comparison, typed, arm, binary, wrapping, exact, plain, disjunction, icmp, cast_by, truncate, zero_extend, sign_extend, select, freeze, inst_by, entry, phi, next_entry, attached, entry_or_attachment, with_length, arrays, closers, alloca_object, gep_flags, gep_arrays, gep_object, pointer, alloca, load, store, gep, aligned, align_or_attachment, next_index, index_or_attachment, inst_line, line_by, line_named, prefixes, with_part, parameter_parts, first_parameter, parameters, comdat_rest, debug_rest, with_header, header_parts, attachment, record_rest, started, with_comma, whole_line, next_line, lines, returned_by, returned, target, cond_branch, branch_to, branch, is_type, with_case, cases, switch, return_of, terminator_by, attachments, block, entry_block, next_block, blocks, define, append-nil, parts, Spells, part_value, part_begins, read_lawful, read-found, one_bit, case_begins, case_within, most_parameters}
 use Rattle.ir_lexer.specs.declared.token.Kind.TheVariants as kind
 use Rattle.ir_words.specs.declared.word.Opcode.TheVariants as opcode
 use Rattle.ir_words.specs.declared.word.Flag.{Flag}
@@ -43,9 +43,6 @@ int-kind = (λ t e. no-width t (none-int (width_in t) t.place e), inl (int_type.
 
 counted-kind : (room : Bool) → IsOfType (λ t. (counted_type room).stands t ≡ None) (Stands (counted_type room).stands) (counted_type room).reason
 counted-kind room = (λ t e. no-width t (none-type (is_pointer t) (width_in t) (none-typed (type_in t) t.place e)), inr (inr ((counted_type room).value, refl)))
-
-memory-kind : IsOfType (λ t. memory_type.stands t ≡ None) (Stands memory_type.stands) memory_type.reason
-memory-kind = (λ t e. refl, inr (inr (memory_type.value, refl)))
 
 pointer-kind : IsOfType (λ t. pointer_type.stands t ≡ None) (Stands pointer_type.stands) pointer_type.reason
 pointer-kind = (λ t e. refl, inr (inr (pointer_type.value, refl)))
@@ -163,7 +160,7 @@ tells-closers (suc n) = (inr (λ t. refl, (refl, refl, refl)), λ a. tells-close
 
 tells-alloca-object : TellsTypes alloca_object
 unfolding alloca_object
-tells-alloca-object = ((tells-arrays _, λ s. inl (λ t e. refl, inr (inr (refl, ((element_type true s.lengths).value, refl))))), λ found. (tells-closers _, λ closed. tt))
+tells-alloca-object = ((tells-arrays _, λ s. inl ((counted-kind true).0, inr (inr (refl, ((element_type true s.lengths).value, refl))))), λ found. (tells-closers _, λ closed. tt))
 
 tells-gep-flags : TellsTypes gep_flags
 unfolding gep_flags
@@ -175,7 +172,7 @@ tells-gep-arrays = (tells-gep-flags, λ s opening. tells-length s)
 
 tells-gep-object : TellsTypes gep_object
 unfolding gep_object
-tells-gep-object = ((tells-gep-arrays, λ s. inl (λ t e. refl, inr (inr (refl, ((element_type false s.lengths).value, refl))))), λ found. (tells-closers _, λ closed. tt))
+tells-gep-object = ((tells-gep-arrays, λ s. inl ((counted-kind true).0, inr (inr (refl, ((element_type false s.lengths).value, refl))))), λ found. (tells-closers _, λ closed. tt))
 
 tells-pointer : TellsTypes pointer
 unfolding pointer
@@ -193,13 +190,13 @@ tells-line-by : (number : ℕ) (name : WrittenName) (w : LineWord) → TellsType
 unfolding inst_line alloca load gep
 tells-line-by number name word_of.Phi = tells-phi name
 tells-line-by number name word_of.Alloca = (tells-alloca-object, λ object. tt)
-tells-line-by number name word_of.Load = (inl memory-kind, λ type. (inr (λ t. refl, (refl, refl, refl)), λ comma. (tells-pointer, λ from. tt)))
+tells-line-by number name word_of.Load = (inl (counted-kind true), λ type. (inr (λ t. refl, (refl, refl, refl)), λ comma. (tells-pointer, λ from. tt)))
 tells-line-by number name word_of.GetElementPtr = (tells-gep-object, λ object. (inr (λ t. refl, (refl, refl, refl)), λ comma. (tells-pointer, λ base. tt)))
 tells-line-by number name (word_of.Inst o) = (tells-inst name o, λ a. tt)
 
 tells-store : TellsTypes store
 unfolding store
-tells-store = (inl memory-kind, λ type. (inr (operand-kind false type.of_type), λ value. (inr (λ t. refl, (refl, refl, refl)), λ comma. (tells-pointer, λ to. tt))))
+tells-store = (inl (counted-kind true), λ type. (inr (operand-kind false type.of_type), λ value. (inr (λ t. refl, (refl, refl, refl)), λ comma. (tells-pointer, λ to. tt))))
 
 tells-named : (phi_too : Bool) (number : ℕ) (name : WrittenName) → TellsTypes (line_named phi_too number name)
 unfolding line_named

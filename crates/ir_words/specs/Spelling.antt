@@ -110,18 +110,6 @@ abbrev pub is_type : Option (Option IrType) → Bool
 is_type None = false
 is_type (Some type) = is_some type
 
--- the types of what is in memory: i8, i16, i32, i64 and ptr
-abbrev pub is_memory_type : IrType → Bool
-is_memory_type (Int w) = w.bits == 8 || w.bits == 16 || w.bits == 32 || w.bits == 64
-is_memory_type Ptr = true
-
-abbrev pub memory_type_of : Option (Option IrType) → Option IrType
-memory_type_of (Some (Some type)) = (if is_memory_type type then Some type else None)
-memory_type_of _ = None
-
-abbrev pub memory_type_in : Lexeme → Option IrType
-memory_type_in t = memory_type_of (type_in t)
-
 abbrev pub type_at : Option IrType → Place → Option WrittenType
 type_at None at = None
 type_at (Some type) at = Some (record { of_type = type; at = at })
@@ -139,9 +127,10 @@ abbrev pub is_small_object : Bool → List ℕ → IrType → Bool
 is_small_object true lengths element = nat_le (nested_size lengths element) 64
 is_small_object false lengths element = are_small_arrays lengths element
 
-abbrev pub fits_object : Bool → List ℕ → Option IrType → Bool
-fits_object in_alloca lengths None = true
-fits_object in_alloca lengths (Some element) = is_small_object in_alloca lengths element
+-- whether what a token spells as an element is a type, and arrays of these lengths of it are small
+abbrev pub fits_object : Bool → List ℕ → Option (Option IrType) → Bool
+fits_object in_alloca lengths (Some (Some element)) = is_small_object in_alloca lengths element
+fits_object in_alloca lengths _ = false
 
 -- the position of the type of one bit
 abbrev pub bit_at : Option (Option Width) → Place → Option Place

@@ -83,11 +83,11 @@ access_links n (access.Load into type from) align h k =
     links-append (result_pieces into) (word space (codes "load") ∷ word space (type_text type.of_type) ∷ comma ∷ (pointer_pieces from ++ align_pieces align)) (result-links into h.0)
     (said-links (codes "load") (word space (type_text type.of_type) ∷ comma ∷ (pointer_pieces from ++ align_pieces align)) refl
     (said-links (type_text type.of_type) (comma ∷ (pointer_pieces from ++ align_pieces align)) (type-class type.of_type)
-    (comma-links (pointer_pieces from ++ align_pieces align) (links-append (pointer_pieces from) (align_pieces align) (pointer-links from h.2) (align-links align k)))))
+    (comma-links (pointer_pieces from ++ align_pieces align) (links-append (pointer_pieces from) (align_pieces align) (pointer-links from h.1) (align-links align k)))))
 access_links n (access.Store value to) align h k =
     free-links (word indented (codes "store")) (typed_pieces value ++ comma ∷ (pointer_pieces to ++ align_pieces align)) (begun (codes "store") refl)
-    (links-append (typed_pieces value) (comma ∷ (pointer_pieces to ++ align_pieces align)) (typed-links false value h.1)
-    (comma-links (pointer_pieces to ++ align_pieces align) (links-append (pointer_pieces to) (align_pieces align) (pointer-links to h.2) (align-links align k))))
+    (links-append (typed_pieces value) (comma ∷ (pointer_pieces to ++ align_pieces align)) (typed-links false value h.0)
+    (comma-links (pointer_pieces to ++ align_pieces align) (links-append (pointer_pieces to) (align_pieces align) (pointer-links to h.1) (align-links align k))))
 
 inst_links : (n : ℕ) (i : WrittenInst) → IsInst n i → Links (inst_pieces i)
 inst_links n (inst.Binary into o type left right) h =

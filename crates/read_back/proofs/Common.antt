@@ -14,14 +14,14 @@ pub use Rattle.std.specs.List.{list_all, AllByRecursion, Contains, flat_map, All
 unfoldable pub use Rattle.std.specs.List.{IsDistinct}
 pub use Rattle.std.specs.Prelude.{All, ◌&&◌, ◌==◌, nat_lt, ◌||◌, not, option_map, fold, nat_eq, is_some}
 pub use Rattle.std.specs.Str.{bytes_eq}
-pub use Rattle.ir_grammar.specs.Classes.{any, line_word, operand_class, literal_class, pointer_type, element_type, array_length, alignment, int_type, counted_type, memory_type, bit_type, return_type, predicate_class, terminator_word, passed, flag_fits}
+pub use Rattle.ir_grammar.specs.Classes.{any, line_word, operand_class, literal_class, pointer_type, element_type, array_length, alignment, int_type, counted_type, bit_type, return_type, predicate_class, terminator_word, passed, flag_fits}
 pub use Rattle.ir_grammar.specs.Grammar.{is_comma, is_local_kind, starts_line, line_begins, line_within, may_have_phi, next_number, started, line_comma, with_comma, returned_by, is_type, case_begins, case_within, terminator_by, follows_parameter, parameter_begins, with_part, commas, with_inst, with_line, is_prefix, follows_header, with_phi, opened, begins_block, block_begins, with_block, body_of, new_parameter}
 unfoldable pub use Rattle.ir_grammar.specs.Grammar.{whole_line, returned, target, cond_branch, branch_to, branch, with_case, cases, switch, return_of, parameter_parts, first_parameter, parameters, next_line, prefixes, header_parts, define, lines, attachments, block, entry_block, next_block, blocks}
 pub use Rattle.ir_grammar.specs.Instructions.{is_square, array_begins, array_within, no_gep_flags, behind_flags, closers, is_gep_flag, line_by, with_index, inst_by, next_gep_flag, default_align, with_entry, is_wrap}
 unfoldable pub use Rattle.ir_grammar.specs.Instructions.{with_length, arrays, alloca_object, gep_flags, gep_arrays, gep_object, alloca, load, store, gep, line_named, phi, next_entry, entry_or_attachment, attached, aligned, align_or_attachment, next_index, index_or_attachment, typed, arm, pointer, binary, cast_by, wrapping, exact, plain, disjunction, icmp, truncate, zero_extend, sign_extend, select, freeze, entry, comparison, wraps, flagged_type}
 pub use Rattle.ir_words.specs.Numbers.{is_negative, magnitude, in_range, wrapped, value_of, value_after}
 unfoldable pub use Rattle.ir_words.specs.Numbers.{width_of}
-pub use Rattle.ir_words.specs.Spelling.{is_memory_type, local_of, global_of, label_of, named_at, label_line, is_record, line_start, is_pointer_type, is_small_object, width_in, is_width, truth_value, literal_value, literal_of, word_of_type, word_value, number_value, literal_at, operand_at, fits_bits, fits_type, memory_type_of, memory_type_in, type_in, type_at, is_pointer, pointer_in, fits_object, number_of_kind, gep_flag_named, gep_flag_of, bits_behind, spelled_width, int_typed_at, int_type_in, typed_at, returned_at, attribute_named, parameter_part, inst_line}
+pub use Rattle.ir_words.specs.Spelling.{local_of, global_of, label_of, named_at, label_line, is_record, line_start, is_pointer_type, is_small_object, width_in, is_width, truth_value, literal_value, literal_of, word_of_type, word_value, number_value, literal_at, operand_at, fits_bits, fits_type, type_in, type_at, is_pointer, pointer_in, fits_object, number_of_kind, gep_flag_named, gep_flag_of, bits_behind, spelled_width, int_typed_at, int_type_in, typed_at, returned_at, attribute_named, parameter_part, inst_line}
 pub use Rattle.ir_words.specs.Words.{is_word_of, opcode_of, inst_word, memory_word_of, or_word, line_word_of, memory_word, opcode_named, wrapping_op, exact_op, is_mark_of, flag_text}
 pub use Rattle.ir_words.specs.declared.word.LineStart.{LineStart}
 pub use Rattle.ir_words.specs.declared.word.LineWord.{LineWord}
@@ -88,7 +88,7 @@ pub use Rattle.ir_tree.specs.Limits.{alignments}
 pub use Rattle.ir_tree.specs.Names.{same_name, with_name, number_of}
 pub use Rattle.ir_tree.specs.Sites.{no_place, Step, sites, parts, sites_in, inst_sites, inst_steps, is_same_type, header_sites, parameter_sites, terminator_sites}
 unfoldable pub use Rattle.ir_tree.specs.Sites.{steps}
-pub use Rattle.ir_tree.specs.Types.{one_bit, type_align}
+pub use Rattle.ir_tree.specs.Types.{one_bit}
 pub use Rattle.ir_tree.specs.WellFormed.{IsWellFormed, DefinesAgain, UsesUnknown, ClashesType, HasWrongEdge, IsMissed, IsMissedAt, UsesUnassigned}
 pub use Rattle.ir_tree.specs.declared.module.Entry.{Entry}
 pub use Rattle.ir_tree.specs.declared.module.Refused.{Refused}

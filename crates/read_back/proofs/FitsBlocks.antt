@@ -5,7 +5,7 @@ use Rattle.ir_words.specs.declared.written.WrittenLine.TheVariants as line
 use Rattle.read_back.proofs.Spellable.{IsName, IsNameOrNone, IsPhi, IsInst, AreInsts, IsBody, body_size, AreBlocks}
 use Rattle.read_back.proofs.FitsForms.{Stands, Gives, GivesParts}
 use Rattle.read_back.proofs.FitsNames.{label-is, named-is}
-use Rattle.read_back.proofs.FitsMemory.{part-begins, default-aligned}
+use Rattle.read_back.proofs.FitsMemory.{part-begins, own-alignment}
 use Rattle.read_back.proofs.FitsPhis.{all-push}
 use Rattle.read_back.proofs.FitsLines.{IsLine, line-fits}
 use Rattle.read_back.proofs.FitsEnds.{terminator-gives}
@@ -50,7 +50,7 @@ one-line-more n s (line.Label name) F is = record { label = is; phis = F.phis; i
 one-line-more n s line.Record F is = record { label = F.label; phis = F.phis; insts = F.insts; counted = F.counted }
 one-line-more n s (line.Entries p) F (some, may, P) = phi-line n s p F some may P
 one-line-more n s (line.Phi p) F (some, may, P) = phi-line n s p F some may P
-one-line-more n s (line.Access a) F (some, A) = inst-line n s (inst.Access a (default_align a)) F some (A, default-aligned (next_number s) a A)
+one-line-more n s (line.Access a) F (some, A) = inst-line n s (inst.Access a (default_align a)) F some (A, own-alignment a)
 one-line-more n s (line.Indices g) F (some, G) = inst-line n s (inst.GetElementPtr g) F some G
 one-line-more n s (line.Inst i) F (some, I) = inst-line n s i F some I
 

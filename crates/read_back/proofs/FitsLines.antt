@@ -9,8 +9,8 @@ use Rattle.ir_grammar.specs.Instructions as forms
 use Rattle.read_back.proofs.Spellable.{IsName, IsPhi, IsAccess, IsIndex, IsInst}
 use Rattle.read_back.proofs.FitsForms.{Stands, Gives, GivesParts}
 use Rattle.read_back.proofs.FitsNames.{AreBytes, local-is, label-is}
-use Rattle.read_back.proofs.FitsOperands.{operand-fits, memory-fits, pointer-gives}
-use Rattle.read_back.proofs.FitsMemory.{part-begins, default-aligned, alignment-fits, alloca-object, gep-object}
+use Rattle.read_back.proofs.FitsOperands.{operand-fits, pointer-gives}
+use Rattle.read_back.proofs.FitsMemory.{part-begins, own-alignment, alignment-fits, alloca-object, gep-object}
 use Rattle.read_back.proofs.FitsInsts.{inst-gives}
 use Rattle.read_back.proofs.FitsPhis.{all-push, entry-gives, first-entry, one-entry-more}
 
@@ -100,7 +100,7 @@ line-gives : (phi_too : Bool) (n room : ℕ) (name : WrittenName) (w : LineWord)
 unfolding phi alloca load gep forms.inst_line
 line-gives phi_too n room name word_of.Phi l some may is (type, T, (opening, O, (first, E, same))) = subst (λ (x : WrittenLine). IsLine phi_too n room x) same (some, may refl, first-entry name type first is (entry-gives type first E))
 line-gives phi_too n room name word_of.Alloca l some may is (object, O, same) = subst (λ (x : WrittenLine). IsLine phi_too n room x) same (some, (is, refl, alloca-object object O))
-line-gives phi_too n room name word_of.Load l some may is (type, T, (comma, C, (from, F, same))) = subst (λ (x : WrittenLine). IsLine phi_too n room x) same (some, (is, memory-fits T.token type T.stands_for, pointer-gives from F))
+line-gives phi_too n room name word_of.Load l some may is (type, T, (comma, C, (from, F, same))) = subst (λ (x : WrittenLine). IsLine phi_too n room x) same (some, (is, pointer-gives from F))
 line-gives phi_too n room name word_of.GetElementPtr l some may is (object, O, (comma, C, (base, B, same))) =
     let G = gep-object object O in
     subst (λ (x : WrittenLine). IsLine phi_too n room x) same (some, (is, G.0, G.1, pointer-gives base B, tt))
@@ -114,7 +114,7 @@ unfolding line_named store
 started-gives phi_too n room (start.Label name) l is same = subst (λ (x : WrittenLine). IsLine phi_too n room x) same is
 started-gives phi_too n room (start.Inst name) l (some, is) (equals, E, (w, W, L)) = line-gives phi_too n room name w l some (word-where phi_too w W) is L
 started-gives phi_too n room start.Store l some (type, T, (value, V, (comma, C, (to, P, same)))) =
-    subst (λ (x : WrittenLine). IsLine phi_too n room x) same (some, (memory-fits T.token type T.stands_for, operand-fits false type.of_type value V, pointer-gives to P))
+    subst (λ (x : WrittenLine). IsLine phi_too n room x) same (some, (operand-fits false type.of_type value V, pointer-gives to P))
 started-gives phi_too n room start.Record l is (u, R, same) = subst (λ (x : WrittenLine). IsLine phi_too n room x) same tt
 
 -- ---- what follows a comma
@@ -130,7 +130,7 @@ comma-gives phi_too n room (line.Entries p) next (inl (opening, T, (more, E, sam
     subst (λ (x : WrittenLine). IsLine phi_too n room x) same (some, may, one-entry-more p more P (ltb-true (length p.entries) 16777216 T.keeps) (entry-gives p.of_type more E))
 comma-gives phi_too n room (line.Entries p) next (inr (w, T, (number, N, same))) h = subst (λ (x : WrittenLine). IsLine phi_too n room x) same h
 comma-gives phi_too n room (line.Access a) next (inl (w, T, (m, N, same))) (some, A) = subst (λ (x : WrittenLine). IsLine phi_too n room x) same (some, (A, alignment-fits m N))
-comma-gives phi_too n room (line.Access a) next (inr (w, T, (number, N, same))) (some, A) = subst (λ (x : WrittenLine). IsLine phi_too n room x) same (some, (A, default-aligned n a A))
+comma-gives phi_too n room (line.Access a) next (inr (w, T, (number, N, same))) (some, A) = subst (λ (x : WrittenLine). IsLine phi_too n room x) same (some, (A, own-alignment a))
 comma-gives phi_too n room (line.Indices g) next (inl (type, T, (value, V, same))) (some, G) =
     subst (λ (x : WrittenLine). IsLine phi_too n room x) same (some, one-index-more n g (record { of_type = type; operand = value }) G (operand-fits false (Int type.width) value V))
 comma-gives phi_too n room (line.Indices g) next (inr (w, T, (number, N, same))) h = subst (λ (x : WrittenLine). IsLine phi_too n room x) same h

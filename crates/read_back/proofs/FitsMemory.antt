@@ -1,12 +1,11 @@
 -- Alignments, types of objects in memory, and the flags of a getelementptr.
-use Rattle.read_back.proofs.Common.{◌≡◌, ℕ, zero, suc, ◌<◌, ◌≤◌, ◌^◌, Bool, true, false, cond, eqb, List, [], ◌∷◌, ◌++◌, length, Option, Some, None, codes, refl, subst, arith, ◌&&◌, ◌||◌, ◌==◌, not, nat_eq, nat_lt, bytes_eq, list_any, Contains, ltb-true, eqb-true, length-append, All-nil, All-push, Width, Kind, alignments, type_align, IrType, Int, Ptr, part_value, GepFlags, WrittenType, WrittenArrays, WrittenObject, WrittenAccess, is_negative, magnitude, is_memory_type, memory_type_in, fits_object, is_small_object, number_of_kind, gep_flag_named, gep_flag_of, any, element_type, array_length, alignment, is_square, array_begins, array_within, with_length, arrays, alloca_object, is_gep_flag, next_gep_flag, gep_flags, gep_arrays, gep_object, default_align}
+use Rattle.read_back.proofs.Common.{◌≡◌, ℕ, zero, suc, ◌<◌, ◌≤◌, ◌^◌, Bool, true, false, cond, List, [], ◌∷◌, ◌++◌, length, Option, Some, None, codes, refl, subst, arith, ◌&&◌, ◌==◌, not, nat_eq, nat_lt, bytes_eq, list_any, Contains, ltb-true, eqb-true, length-append, All-nil, All-push, Kind, alignments, IrType, part_value, GepFlags, WrittenType, WrittenArrays, WrittenObject, WrittenAccess, is_negative, magnitude, fits_object, is_small_object, number_of_kind, gep_flag_named, gep_flag_of, any, element_type, array_length, alignment, is_square, array_begins, array_within, with_length, arrays, alloca_object, is_gep_flag, next_gep_flag, gep_flags, gep_arrays, gep_object, default_align, Place, typed_at, type_in}
 use Rattle.std.proofs.Common.{All}
 use Rattle.std.proofs.lemmas.Map.Views.{Contains-from_any}
 use Rattle.ir_lexer.specs.declared.token.Kind.TheVariants as kind
-use Rattle.ir_words.specs.declared.written.WrittenAccess.TheVariants as access
-use Rattle.read_back.proofs.Spellable.{IsObject, IsAccess, AreFlags}
+use Rattle.ir_grammar.proofs.Alignments.{default-aligned}
+use Rattle.read_back.proofs.Spellable.{IsObject, AreFlags}
 use Rattle.read_back.proofs.FitsForms.{Stands, Gives, GivesParts}
-use Rattle.read_back.proofs.FitsOperands.{memory-fits, type-at}
 
 pub part-begins : {A : Type 0} (goes_on : Bool) (m : Option A) (a : A) → part_value goes_on m ≡ Some a → m ≡ Some a
 part-begins true m a e = e
@@ -17,22 +16,8 @@ part-begins false m a e = absurd (cc e)
 is-aligned : (n : ℕ) → list_any (nat_eq n) alignments ≡ true → Contains alignments n
 is-aligned n e = Contains-from_any {eq = nat_eq} (λ x y same. eqb-true x y same) n alignments e
 
-some-width : (w : Width) (a b c d : Bool) → eqb w.bits 8 ≡ a → eqb w.bits 16 ≡ b → eqb w.bits 32 ≡ c → eqb w.bits 64 ≡ d → (a || b || c || d) ≡ true → list_any (nat_eq (type_align (Int w))) alignments ≡ true
-some-width w true b c d e f g h some = let is : w.bits ≡ 8 = eqb-true w.bits 8 e in rw is refl
-some-width w false true c d e f g h some = let is : w.bits ≡ 16 = eqb-true w.bits 16 f in rw is refl
-some-width w false false true d e f g h some = let is : w.bits ≡ 32 = eqb-true w.bits 32 g in rw is refl
-some-width w false false false true e f g h some = let is : w.bits ≡ 64 = eqb-true w.bits 64 h in rw is refl
-some-width w false false false false e f g h some = absurd (cc some)
-
--- the size of what is in memory is an alignment
-size-aligned : (type : IrType) → is_memory_type type ≡ true → Contains alignments (type_align type)
-size-aligned (Int w) e = is-aligned (type_align (Int w)) (some-width w (eqb w.bits 8) (eqb w.bits 16) (eqb w.bits 32) (eqb w.bits 64) refl refl refl refl e)
-size-aligned Ptr e = is-aligned (type_align Ptr) refl
-
-pub default-aligned : (n : ℕ) (a : WrittenAccess) → IsAccess n a → Contains alignments (default_align a)
-default-aligned n (access.Alloca into number type) (name, is, object) = size-aligned type.of_type.element object.element
-default-aligned n (access.Load into type from) (name, memory, pointer) = size-aligned type.of_type memory
-default-aligned n (access.Store value to) (memory, typed, pointer) = size-aligned value.of_type.of_type memory
+pub own-alignment : (a : WrittenAccess) → Contains alignments (default_align a)
+own-alignment a = is-aligned (default_align a) (default-aligned a)
 
 number-of : (k : Kind) (text : List ℕ) (n : ℕ) → number_of_kind k text ≡ Some n → magnitude text ≡ n
 number-of kind.Number text n e = cc e
@@ -75,16 +60,16 @@ arrays-fit zero s x same A = subst (λ (y : WrittenArrays). ArraysFit y) same A
 arrays-fit (suc n) s x (a, next, T, (many, M, (times, W, same)), more) A =
     arrays-fit n next x more (subst (λ (y : WrittenArrays). ArraysFit y) same (more-lengths s.lengths many A (ltb-true (length s.lengths) 8 T.keeps) (length-fits many M)))
 
-small-element : (in_alloca : Bool) (lengths : List ℕ) (m : Option IrType) (type : IrType) → m ≡ Some type → fits_object in_alloca lengths m ≡ true → is_small_object in_alloca lengths type ≡ true
-small-element in_alloca lengths None type e kept = absurd (cc e)
-small-element in_alloca lengths (Some other) type e kept = let same : other ≡ type = cc e in subst (λ (t : IrType). is_small_object in_alloca lengths t ≡ true) same kept
+small-element : (in_alloca : Bool) (lengths : List ℕ) (m : Option (Option IrType)) (at : Place) (x : WrittenType) → typed_at m at ≡ Some x → fits_object in_alloca lengths m ≡ true → is_small_object in_alloca lengths x.of_type ≡ true
+small-element in_alloca lengths None at x e kept = absurd (cc e)
+small-element in_alloca lengths (Some None) at x e kept = absurd (cc kept)
+small-element in_alloca lengths (Some (Some type)) at x e kept = let same : (let y : WrittenType = record { of_type = type; at = at } in y) ≡ x = cc e in subst (λ (y : WrittenType). is_small_object in_alloca lengths y.of_type ≡ true) same kept
 
 object-fits : (in_alloca : Bool) (lengths : List ℕ) (element : WrittenType) → AreLengths lengths → Stands (element_type in_alloca lengths).stands (element_type in_alloca lengths).within element → IsObject in_alloca (record { lengths = lengths; element = element.of_type })
 object-fits in_alloca lengths element A S = record {
   arrays = A.few;
   lengths = A.small;
-  element = memory-fits S.token element S.stands_for;
-  small = small-element in_alloca lengths (memory_type_in S.token) element.of_type (type-at (memory_type_in S.token) S.token.place element S.stands_for) S.keeps;
+  small = small-element in_alloca lengths (type_in S.token) S.token.place element S.stands_for S.keeps;
 }
 
 pub alloca-object : (x : WrittenObject) → Gives alloca_object x → IsObject true x.of_type

@@ -1,5 +1,5 @@
 -- Operands, types, and the parts of instructions that one token is.
-use Rattle.read_back.proofs.Common.{◌≡◌, ℕ, ◌-◌, ◌<◌, ◌≤◌, ◌^◌, Bool, true, false, cond, List, drop, Option, Some, None, codes, refl, sym, ap, subst, arith, ◌&&◌, not, ◌==◌, bytes_eq, ltb-true, pow_pos, pow_below, mod_below, Place, Width, Lexeme, Kind, name_of, IrType, Int, Ptr, WrittenType, WrittenValue, WrittenOperand, WrittenLiteral, WrittenTyped, is_negative, magnitude, in_range, wrapped, truth_value, literal_value, literal_of, word_of_type, word_value, number_value, literal_at, operand_at, fits_bits, fits_type, is_memory_type, memory_type_of, memory_type_in, type_in, type_at, is_pointer, pointer_in, operand_class, literal_class, pointer_type, typed, arm, pointer}
+use Rattle.read_back.proofs.Common.{◌≡◌, ℕ, ◌-◌, ◌<◌, ◌≤◌, ◌^◌, Bool, true, false, cond, List, drop, Option, Some, None, codes, refl, sym, ap, subst, arith, ◌&&◌, not, ◌==◌, bytes_eq, ltb-true, pow_pos, pow_below, mod_below, Place, Width, Kind, name_of, IrType, Int, Ptr, WrittenType, WrittenValue, WrittenOperand, WrittenLiteral, WrittenTyped, is_negative, magnitude, in_range, wrapped, truth_value, literal_value, literal_of, word_of_type, word_value, number_value, literal_at, operand_at, fits_bits, fits_type, type_at, is_pointer, pointer_in, operand_class, literal_class, pointer_type, typed, arm, pointer}
 use Rattle.ir_lexer.specs.declared.token.Kind.TheVariants as kind
 use Rattle.ir_tree.specs.Carrying.{is_pointer as is_arm_pointer}
 use Rattle.ir_words.specs.declared.written.WrittenValue.TheVariants as value
@@ -86,23 +86,11 @@ pub operand-fits : (undef_too : Bool) (type : IrType) (x : WrittenOperand) → S
 operand-fits undef_too type x S =
     value-fits undef_too type S.token.kind S.token.text x.value S.bytes (value-at (value_in undef_too type S.token.kind S.token.text) S.token.place x S.stands_for) S.keeps
 
--- ---- types of what is in memory
+-- ---- the type of a pointer
 
-memory-of : (m : Option (Option IrType)) (type : IrType) → memory_type_of m ≡ Some type → is_memory_type type ≡ true
-memory-of (Some (Some other)) type e = go (is_memory_type other) refl e
-  where
-    go : (b : Bool) → is_memory_type other ≡ b → cond b (Some other) None ≡ Some type → is_memory_type type ≡ true
-    go true is e' = let same : other ≡ type = cc e' in subst (λ (t : IrType). is_memory_type t ≡ true) same is
-    go false is e' = absurd (cc e')
-memory-of (Some None) type e = absurd (cc e)
-memory-of None type e = absurd (cc e)
-
-pub type-at : (m : Option IrType) (at : Place) (x : WrittenType) → type_at m at ≡ Some x → m ≡ Some x.of_type
+type-at : (m : Option IrType) (at : Place) (x : WrittenType) → type_at m at ≡ Some x → m ≡ Some x.of_type
 type-at None at x e = absurd (cc e)
 type-at (Some type) at x e = let same : (let y : WrittenType = record { of_type = type; at = at } in y) ≡ x = cc e in ap (λ (y : WrittenType). Some y.of_type) same
-
-pub memory-fits : (t : Lexeme) (x : WrittenType) → type_at (memory_type_in t) t.place ≡ Some x → is_memory_type x.of_type ≡ true
-memory-fits t x e = memory-of (type_in t) x.of_type (type-at (memory_type_in t) t.place x e)
 
 pointer-of : (b : Bool) (type : IrType) → cond b (Some Ptr) None ≡ Some type → type ≡ Ptr
 pointer-of true type e = cc e

@@ -1,5 +1,5 @@
 -- What holds of each function that some tokens spell, apart from those tokens.
-use Rattle.read_back.proofs.Common.{◌≡◌, ◌<◌, ◌≤◌, ◌+◌, ◌^◌, ℕ, List, [], ◌∷◌, length, Bool, true, false, not, Option, Some, None, All, AllByRecursion, Contains, is_digits, without_zeros, one_bit, alignments, Name, IrType, Int, Ptr, MemoryType, WrittenName, WrittenValue, WrittenTyped, WrittenParameter, GepFlags, WrittenAccess, WrittenIndex, WrittenInst, WrittenEntry, WrittenPhi, WrittenCase, WrittenReturn, Void, Value, WrittenTerminator, WrittenBody, WrittenBlock, WrittenFunction, is_memory_type, is_pointer_type, is_small_object}
+use Rattle.read_back.proofs.Common.{◌≡◌, ◌<◌, ◌≤◌, ◌+◌, ◌^◌, ℕ, List, [], ◌∷◌, length, Bool, true, false, not, Option, Some, None, All, AllByRecursion, Contains, is_digits, without_zeros, one_bit, alignments, Name, IrType, Int, Ptr, MemoryType, WrittenName, WrittenValue, WrittenTyped, WrittenParameter, GepFlags, WrittenAccess, WrittenIndex, WrittenInst, WrittenEntry, WrittenPhi, WrittenCase, WrittenReturn, Void, Value, WrittenTerminator, WrittenBody, WrittenBlock, WrittenFunction, is_pointer_type, is_small_object}
 use Rattle.ir_tree.specs.Carrying.{is_division, is_pointer}
 use Rattle.ir_tree.specs.declared.name.Name.TheVariants as name
 use Rattle.ir_words.specs.declared.written.WrittenValue.TheVariants as value
@@ -45,14 +45,13 @@ pub record IsPointer (t : WrittenTyped) : Type 0 where
 pub record IsObject (in_alloca : Bool) (type : MemoryType) : Type 0 where
   pub arrays : length type.lengths ≤ 8
   pub lengths : All (λ (n : ℕ). n < 2 ^ 64) type.lengths
-  pub element : is_memory_type type.element ≡ true
   pub small : is_small_object in_alloca type.lengths type.element ≡ true
 
 -- an access that is the instruction of this number
 abbrev pub IsAccess : ℕ → WrittenAccess → Type 0
 IsAccess n (access.Alloca into number type) = IsName into.name × (number ≡ n) × IsObject true type.of_type
-IsAccess n (access.Load into type from) = IsName into.name × (is_memory_type type.of_type ≡ true) × IsPointer from
-IsAccess n (access.Store value to) = (is_memory_type value.of_type.of_type ≡ true) × IsTyped false value × IsPointer to
+IsAccess n (access.Load into type from) = IsName into.name × IsPointer from
+IsAccess n (access.Store value to) = IsTyped false value × IsPointer to
 
 abbrev pub IsIndex : WrittenIndex → Type 0
 IsIndex i = FitsValue false (Int i.of_type.width) i.operand.value

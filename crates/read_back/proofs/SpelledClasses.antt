@@ -1,5 +1,5 @@
 -- What single tokens denote that have the bytes of printed names, types, operands and words.
-use Rattle.read_back.proofs.Common.{◌≡◌, ℕ, ◌^◌, ◌<◌, ◌≤◌, Bool, true, false, List, Option, Some, None, refl, sym, ap, ◌∙◌, arith, codes, Contains, bytes_eq, decimal, lt-ltb, Width, Place, is_digits, Lexeme, alignments, Name, IrType, Int, Ptr, Predicate, LineWord, WrittenName, WrittenIntType, WrittenType, WrittenReturnType, WrittenOperand, WrittenValue, WrittenLiteral, value_of, width_of, is_negative, magnitude, wrapped, in_range, or_word, memory_word, inst_word, opcode_named, bits_behind, spelled_width, int_typed_at, is_width, int_type_in, type_in, typed_at, memory_type_in, memory_type_of, is_memory_type, type_at, is_small_object, fits_object, returned_at, int_type, counted_type, memory_type, element_type, pointer_type, bit_type, return_type, operand_class, literal_class, array_length, alignment, predicate_class, line_word, width_text, type_text, predicate_text, return_text}
+use Rattle.read_back.proofs.Common.{◌≡◌, ℕ, ◌^◌, ◌<◌, ◌≤◌, Bool, true, false, List, Option, Some, None, refl, sym, ap, ◌∙◌, arith, codes, Contains, bytes_eq, decimal, lt-ltb, Width, Place, is_digits, Lexeme, alignments, Name, IrType, Int, Ptr, Predicate, LineWord, WrittenName, WrittenIntType, WrittenType, WrittenReturnType, WrittenOperand, WrittenValue, WrittenLiteral, value_of, width_of, is_negative, magnitude, wrapped, in_range, or_word, memory_word, inst_word, opcode_named, bits_behind, spelled_width, int_typed_at, is_width, int_type_in, type_in, typed_at, is_small_object, fits_object, returned_at, int_type, counted_type, element_type, pointer_type, bit_type, return_type, operand_class, literal_class, array_length, alignment, predicate_class, line_word, width_text, type_text, predicate_text, return_text}
 use Rattle.ir_tree.specs.declared.tree.Predicate.TheVariants as predicate
 use Rattle.ir_words.specs.declared.written.WrittenValue.TheVariants as value
 use Rattle.ir_words.specs.Spelling.{is_type}
@@ -83,28 +83,14 @@ type-reads gap room type e =
       keeps = λ t. rw e (ap is_type (type-again gap type t));
     }
 
-memory-again : (gap : List ℕ) (type : IrType) (t : Lexeme) → is_memory_type type ≡ true
-    → memory_type_in (as_piece (piece.word gap (type_text type)) t) ≡ Some type
-memory-again gap type t e =
-    let found : memory_type_in (as_piece (piece.word gap (type_text type)) t) ≡ memory_type_of
-    (Some (Some type)) = ap memory_type_of (type-again gap type t) in
-    found ∙ rw e refl
-
-pub memory-reads : (gap : List ℕ) (type : IrType) → is_memory_type type ≡ true
-    → Reads memory_type.stands memory_type.within (piece.word gap (type_text type)) (a_type type)
-memory-reads gap type e =
-    record {
-      stands_for = λ t. ap (λ (o : Option IrType). type_at o t.place) (memory-again gap type t e);
-      keeps = λ t. refl;
-    }
-
 pub element-reads : (gap : List ℕ) (in_alloca : Bool) (lengths : List ℕ) (type : IrType)
-    → is_memory_type type ≡ true → is_small_object in_alloca lengths type ≡ true
+    → is_small_object in_alloca lengths type ≡ true
     → Reads (element_type in_alloca lengths).stands (element_type in_alloca lengths).within
     (piece.word gap (type_text type)) (a_type type)
-element-reads gap in_alloca lengths type e small = record {
-  stands_for = λ t. ap (λ (o : Option IrType). type_at o t.place) (memory-again gap type t e);
-  keeps = λ t. ap (fits_object in_alloca lengths) (memory-again gap type t e) ∙ small;
+element-reads gap in_alloca lengths type small = record {
+  stands_for =
+      λ t. ap (λ (o : Option (Option IrType)). typed_at o t.place) (type-again gap type t);
+  keeps = λ t. ap (fits_object in_alloca lengths) (type-again gap type t) ∙ small;
 }
 
 pub pointer-reads : (gap : List ℕ)

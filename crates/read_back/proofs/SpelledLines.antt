@@ -280,19 +280,19 @@ accessed-more s (access.Alloca into number type) align qs room (is, numbered, ob
     (λ at. spelled-as
     (alloca-line (may_have_phi s) (next_number s) (a_name into.name at) type object)
     (λ l e. alloca-number (next_number s) number into type l numbered e)) more
-accessed-more s (access.Load into type from) align qs room (is, memory, pointer) aligned more =
+accessed-more s (access.Load into type from) align qs room (is, pointer) aligned more =
     access-more s into.name (access.Load into type from) align
     (piece.mark space (codes "=") ∷ piece.word space (codes "load") ∷ piece.word space
     (type_text type.of_type) ∷ comma ∷ pointer_pieces from) qs room is aligned
     (λ at. load-line (may_have_phi s) (next_number s) (a_name into.name at)
-    type from memory pointer) more
-accessed-more s (access.Store value to) align qs room (memory, fits, pointer) aligned more =
+    type from pointer) more
+accessed-more s (access.Store value to) align qs room (fits, pointer) aligned more =
     one-more (piece.word indented (codes "store"))
     ((typed_pieces value ++ comma ∷ pointer_pieces to) ++ align_pieces align) qs
     (λ at. start.Store) (store-reads s room)
     (λ at. line-with s start.Store (inst.Access (access.Store value to) align)
     (typed_pieces value ++ comma ∷ pointer_pieces to) (align_pieces align)
-    (store-line value to memory fits pointer)
+    (store-line value to fits pointer)
     (λ l e. behind-access-line (access.Store value to) align l aligned e)) more
 
 abbrev gep_front : WrittenGep → List Piece

@@ -1,5 +1,5 @@
 -- Printed types of objects and instructions on memory are spelled, up to what follows commas.
-use Rattle.read_back.proofs.Common.{◌≡◌, ℕ, suc, ◌+◌, ◌<◌, ◌≤◌, ◌^◌, Bool, true, false, List, [], ◌∷◌, ◌++◌, length, refl, sym, ap, subst, ◌∙◌, codes, arith, append_assoc, append-nil, All, lt-ltb, length-append, WrittenName, WrittenType, WrittenTyped, WrittenObject, WrittenArrays, GepFlags, WrittenGep, WrittenAccess, WrittenLine, is_memory_type, is_square, array_begins, array_within, with_length, arrays, no_gep_flags, behind_flags, closers, alloca_object, is_gep_flag, gep_flags, gep_arrays, gep_object, alloca, load, store, gep, line_named, never, either, Piece, none, space, comma, type_text, array_pieces, closing_pieces, object_pieces, word_if}
+use Rattle.read_back.proofs.Common.{◌≡◌, ℕ, suc, ◌+◌, ◌<◌, ◌≤◌, ◌^◌, Bool, true, false, List, [], ◌∷◌, ◌++◌, length, refl, sym, ap, subst, ◌∙◌, codes, arith, append_assoc, append-nil, All, lt-ltb, length-append, WrittenName, WrittenType, WrittenTyped, WrittenObject, WrittenArrays, GepFlags, WrittenGep, WrittenAccess, WrittenLine, is_square, array_begins, array_within, with_length, arrays, no_gep_flags, behind_flags, closers, alloca_object, is_gep_flag, gep_flags, gep_arrays, gep_object, alloca, load, store, gep, line_named, never, either, Piece, none, space, comma, type_text, array_pieces, closing_pieces, object_pieces, word_if}
 use Rattle.ir_words.specs.declared.word.LineWord.TheVariants as word_of
 use Rattle.ir_words.specs.declared.written.WrittenAccess.TheVariants as access
 use Rattle.ir_words.specs.declared.written.WrittenLine.TheVariants as line
@@ -8,7 +8,7 @@ use Rattle.read_back.proofs.Written.{typed_pieces, pointer_pieces}
 use Rattle.read_back.proofs.Placeless.{name_of, type_of, typed_of, object_of, access_of, gep_of}
 use Rattle.read_back.proofs.Spellable.{IsTyped, IsPointer, IsObject, AreFlags}
 use Rattle.read_back.proofs.SpelledTokens.{IsSpelled, AreSpelled, spelled-give, one-then, seq-then, seq-last, upto-is, spelled-mapped, spelled-as, no-more, more-is, more-as, flag-more, tail-from, spelled-tail}
-use Rattle.read_back.proofs.SpelledClasses.{a_type, a_value, memory-reads, element-reads, length-reads, value-reads, line-reads}
+use Rattle.read_back.proofs.SpelledClasses.{a_type, a_value, type-reads, element-reads, length-reads, value-reads, line-reads}
 use Rattle.read_back.proofs.SpelledOperands.{word-then, mark-then, pointer-spelled}
 use Rattle.read_back.proofs.SpelledInsts.{same-both}
 
@@ -65,7 +65,7 @@ alloca-object type is =
     (a_type type.of_type.element)
     (tail-from is_square never
     (arrays-spelled no_gep_flags [] type.of_type.lengths (omega (arith, is.arrays)) is.lengths))
-    (element-reads space true type.of_type.lengths type.of_type.element is.element is.small)
+    (element-reads space true type.of_type.lengths type.of_type.element is.small)
     (λ at. seq-last (closers-spelled type.of_type.lengths) (λ a u. spelled-give refl))
 
 -- flags, where these pieces spell them, and arrays
@@ -100,7 +100,7 @@ gep-object ps flags type found is =
     (closing_pieces type.of_type.lengths) (piece.word space (type_text type.of_type.element))
     (a_type type.of_type.element)
     (gep-arrays ps flags type.of_type.lengths found is.arrays is.lengths)
-    (element-reads space false type.of_type.lengths type.of_type.element is.element is.small)
+    (element-reads space false type.of_type.lengths type.of_type.element is.small)
     (λ at. seq-last (closers-spelled type.of_type.lengths) (λ a u. spelled-give (refl, refl)))
     in subst
     (λ (pieces : List Piece). IsSpelled gep_object pieces
@@ -163,17 +163,17 @@ alloca-line phi_too n name type is =
     }))))
 
 pub load-line : (phi_too : Bool) (n : ℕ) (name : WrittenName) (type : WrittenType)
-    (from : WrittenTyped) → is_memory_type type.of_type ≡ true → IsPointer from
+    (from : WrittenTyped) → IsPointer from
     → IsSpelled (line_named phi_too n name)
     (piece.mark space (codes "=") ∷ piece.word space (codes "load") ∷ piece.word space
     (type_text type.of_type) ∷ comma ∷ pointer_pieces from)
     (IsAccessLine (access_of (access.Load name type from)))
 unfolding line_named load
-load-line phi_too n name type from memory is =
+load-line phi_too n name type from is =
     mark-then (
     one-then (λ at. word_of.Load) (line-reads phi_too space (codes "load") word_of.Load refl refl)
     (λ at.
-    one-then (a_type type.of_type) (memory-reads space type.of_type memory) (λ at'.
+    one-then (a_type type.of_type) (type-reads space true type.of_type refl) (λ at'.
     mark-then (
     seq-last (pointer-spelled from is) (λ x e.
     spelled-give
@@ -183,13 +183,12 @@ load-line phi_too n name type from memory is =
       same = ap (λ (y : WrittenTyped). access.Load (name_of name) (type_of type) y) e;
     }))))))
 
-pub store-line : (value to : WrittenTyped) → is_memory_type value.of_type.of_type ≡ true
-    → IsTyped false value → IsPointer to
+pub store-line : (value to : WrittenTyped) → IsTyped false value → IsPointer to
     → IsSpelled store (typed_pieces value ++ comma ∷ pointer_pieces to)
     (IsAccessLine (access_of (access.Store value to)))
 unfolding store
-store-line value to memory fits is =
-    one-then (a_type value.of_type.of_type) (memory-reads space value.of_type.of_type memory) (λ at.
+store-line value to fits is =
+    one-then (a_type value.of_type.of_type) (type-reads space true value.of_type.of_type refl) (λ at.
     one-then (a_value value.operand.value)
     (value-reads false value.of_type.of_type value.operand.value fits) (λ at'.
     mark-then (

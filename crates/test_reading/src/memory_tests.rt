@@ -72,6 +72,9 @@ fn types_have_sizes(rt: HostRuntime) -> Result<(), Fail> {
     assert!(rt; indexed_size(&of_type, 1) == 8);
     assert!(rt; indexed_size(&of_type, 2) == 2);
     assert!(rt; indexed_size(&of_type, 3) == 2);
+    let padded = arrays(rt.alloc(), &[3], IrType::Int(Width::of(48)))?;
+    assert!(rt; indexed_size(&padded, 0) == 24);
+    assert!(rt; indexed_size(&padded, 1) == 8);
     let large = arrays(rt.alloc(), &[1 << 40, 1 << 40], byte())?;
     expect(indexed_size(&large, 0) == 0, "types have sizes")
 }

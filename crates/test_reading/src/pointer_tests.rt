@@ -39,11 +39,27 @@ define void @f(ptr %p, i8 %x, i64 %i) { %a = load i8, ptr %p %b = load i64, ptr 
     = load ptr, ptr null, !dbg !0 store i8 %x, ptr %p store ptr null, ptr %p, align 1, !dbg !0 \
     ret void }
 
-Limit@1:51: widths that don't stand in memory
+read: every width is one of memory
+define void @f(ptr %p, i8 %x, i64 %i) { %a = load i1, ptr %p %b = load i63, ptr %p, align \
+    4096 store i24 16777215, ptr %p store i1 true, ptr %p, align 8 ret void }
+
+Limit@1:51: no type has this width
 define void @f(ptr %p, i8 %x, i64 %i) { %a = load i65, ptr %p ret void }
 
+Limit@1:51
+define void @f(ptr %p, i8 %x, i64 %i) { %a = load i0, ptr %p ret void }
+
+Unsupported@1:51: types of no value
+define void @f(ptr %p, i8 %x, i64 %i) { %a = load float, ptr %p ret void }
+
 Unsupported@1:51
-define void @f(ptr %p, i8 %x, i64 %i) { %a = load i5, ptr %p ret void }
+define void @f(ptr %p, i8 %x, i64 %i) { %a = load <2 x i8>, ptr %p ret void }
+
+Unsupported@1:51
+define void @f(ptr %p, i8 %x, i64 %i) { %a = load void, ptr %p ret void }
+
+Unsupported@1:51
+define void @f(ptr %p, i8 %x, i64 %i) { %a = load label, ptr %p ret void }
 
 Unsupported@1:51
 define void @f(ptr %p, i8 %x, i64 %i) { %a = load %x, ptr %p ret void }
@@ -96,6 +112,15 @@ define void @f(ptr %p, i8 %x, i64 %i) { %a = store i8 %x, ptr %p ret void }
 Limit@1:50
 define void @f(ptr %p, i8 %x, i64 %i) { store i8 256, ptr %p ret void }
 
+Limit@1:51
+define void @f(ptr %p, i8 %x, i64 %i) { store i24 16777216, ptr %p ret void }
+
+Limit@1:47
+define void @f(ptr %p, i8 %x, i64 %i) { store i65 0, ptr %p ret void }
+
+Unsupported@1:47
+define void @f(ptr %p, i8 %x, i64 %i) { store float %x, ptr %p ret void }
+
 TypeClash@1:51
 define void @f(ptr %p, i8 %x, i64 %i) { store i16 %x, ptr %p ret void }
 
@@ -139,6 +164,21 @@ define void @f(ptr %p, i8 %x, i64 %i) { %a = alloca [ 2 y i8 ] ret void }
 Limit@1:59
 define void @f(ptr %p, i8 %x, i64 %i) { %a = alloca [ 2 x i65 ] ret void }
 
+Limit@1:53
+define void @f(ptr %p, i8 %x, i64 %i) { %a = alloca i65 ret void }
+
+Unsupported@1:53
+define void @f(ptr %p, i8 %x, i64 %i) { %a = alloca float ret void }
+
+read: an element takes its alignment's bytes
+define void @f(ptr %p, i8 %x, i64 %i) { %a = alloca [ 16 x i24 ] %b = alloca [ 64 x i1 ] ret void }
+
+Limit@1:60
+define void @f(ptr %p, i8 %x, i64 %i) { %a = alloca [ 17 x i24 ] ret void }
+
+Limit@1:60
+define void @f(ptr %p, i8 %x, i64 %i) { %a = alloca [ 65 x i1 ] ret void }
+
 bracket@1:71
 define void @f(ptr %p, i8 %x, i64 %i) { %a = alloca [ 2 x i8 ret void }
 
@@ -178,6 +218,18 @@ define void @f(ptr %p, i8 %x, i64 %i) { %a = getelementptr [ 0 x [ 1048577 x i8 
 read
 define void @f(ptr %p, i8 %x, i64 %i) { %a = getelementptr [ 2 x [ 524288 x i8 ] ], ptr %p ret \
     void }
+
+read
+define void @f(ptr %p, i8 %x, i64 %i) { %a = getelementptr [ 131072 x i48 ], ptr %p ret void }
+
+Limit@1:71
+define void @f(ptr %p, i8 %x, i64 %i) { %a = getelementptr [ 131073 x i48 ], ptr %p ret void }
+
+Limit@1:60
+define void @f(ptr %p, i8 %x, i64 %i) { %a = getelementptr i65, ptr %p ret void }
+
+Unsupported@1:60
+define void @f(ptr %p, i8 %x, i64 %i) { %a = getelementptr float, ptr %p ret void }
 
 TypeClash@1:84: indices
 define void @f(ptr %p, i8 %x, i64 %i) { %a = getelementptr i8, ptr %p, i64 %i, i64 0 ret void }

@@ -34,7 +34,15 @@ const MEMORY: &str = "define ptr @memory(ptr nonnull %p, ptr %q) {\nentry:\n  \
      store ptr null, ptr %a, align 1\n  %g = getelementptr inbounds nuw [3 x i8], ptr %q, i64 1, i8 2\n  \
      %h = getelementptr i8, ptr %g, i32 %l\n  ret ptr %h\n}\n";
 
-const ROWS: [Row; 7] = [
+const WIDTHS: &str = "define void @widths(ptr %p) {\nentry:\n  %l = load i1, ptr %p\n  \
+     store i24 66051, ptr %p\n  %a = alloca [3 x i5]\n  %g = getelementptr i48, ptr %p, i64 1\n  \
+     ret void\n}\n";
+
+const ALIGNED_WIDTHS: &str = "define void @widths(ptr %p) {\nentry:\n  \
+     %l = load i1, ptr %p, align 1\n  store i24 66051, ptr %p, align 4\n  \
+     %a = alloca [3 x i5], align 1\n  %g = getelementptr i48, ptr %p, i64 1\n  ret void\n}\n";
+
+const ROWS: [Row; 8] = [
     Row {
         name: "no function",
         text: "; nothing\n",
@@ -54,6 +62,11 @@ const ROWS: [Row; 7] = [
         name: "memory",
         text: MEMORY,
         printed: MEMORY,
+    },
+    Row {
+        name: "widths in memory",
+        text: WIDTHS,
+        printed: ALIGNED_WIDTHS,
     },
     Row {
         name: "names that are not written",
