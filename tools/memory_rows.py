@@ -10,8 +10,8 @@ The rows are those of crates/test_meaning (access_rows.rt). A line is a call and
     stores    ACCESS ALIGN ADDRESS VALUE = done or ub, and the bytes of given1 after it
     offsets   FLAGS BASE TYPE INDEX SCALE .. = VALUE
 
-A value is a number, poison, or a block's name and an offset; a byte is two hexadecimal digits, -- for poison, or a
-pointer and its part. Sections of the Language Reference: load, store and getelementptr Instruction, Pointer Aliasing
+A value is a number, poison, or a block's name and an offset; a byte is two hexadecimal digits, after a tilde two of
+the bits that are poison, -- where all are, or a pointer and its part. Sections of the Language Reference: load, store and getelementptr Instruction, Pointer Aliasing
 Rules, Poison Values. Memory is a list of blocks (Lee, Kim, Hur, Lopes, CAV 2021). This program shares no code with the
 crates.
 """
@@ -27,6 +27,7 @@ given3 8 given1+2/0 given1+2/1 given1+2/2 given1+2/3 given1+2/4 given1+2/5 given
 given4 8 given1+2/0 given1+2/1 given1+2/2 given1+2/3 given1+3/4 given1+2/5 given1+2/6 given1+2/7 |
 given5 8 given1+2/1 given1+2/2 given1+2/3 given1+2/4 given1+2/5 given1+2/6 given1+2/7 given1+2/0 |
 local0.2 2 80 ff ff 7f |
+given7 8 01~02 01~80 01 00~80 |
 given1 16 aa |"""
 
 LOADS = """\
@@ -46,7 +47,14 @@ i9 1 given1+0
 i10 1 given1+0
 i31 2 local0.2+0
 i30 2 local0.2+0
-# one byte of poison, or of a pointer, makes an integer poison
+# one bit of poison, or a part of a pointer, makes an integer poison, also past its width
+i1 1 given7+0
+i1 1 given7+1
+i1 1 given7+2
+i8 1 given7+1
+i8 1 given7+2
+i16 2 given7+2
+i15 2 given7+2
 i8 1 given1+6
 i16 2 given1+6
 i32 4 given1+4
@@ -97,7 +105,11 @@ i32 4 given1+4 4294967294
 i64 8 given1+8 72623859790382856
 i9 1 given1+0 511
 i1 1 given1+15 1
-# poison is stored as bytes of poison
+# poison is stored as poison in each bit of the type, and 0 in those past its width
+i1 1 given1+0 poison
+i5 1 given1+1 poison
+i24 1 given1+0 poison
+i48 4 given1+4 poison
 i8 1 given1+0 poison
 i32 4 given1+8 poison
 i9 1 given1+3 poison
@@ -205,16 +217,21 @@ def value_text(value):
 
 
 def byte_of(word):
+    """A pointer and its part, or a number and the bits that are poison."""
     if "/" in word:
         pointer, part = word.split("/")
         return (value_of(pointer), int(part))
-    return None if word == "--" else int(word, 16)
+    number, _, mask = ("00~ff" if word == "--" else word).partition("~")
+    return int(number, 16), int(mask or "0", 16)
 
 
 def byte_text(byte):
-    if byte is None:
+    first, second = byte
+    if isinstance(first, tuple):
+        return f"{value_text(first)}/{second}"
+    if second == 255:
         return "--"
-    return "%02x" % byte if isinstance(byte, int) else f"{value_text(byte[0])}/{byte[1]}"
+    return "%02x~%02x" % byte if second else "%02x" % first
 
 
 def memory():
@@ -249,11 +266,11 @@ def accessed(blocks, access, align, address):
 def loaded(access, contents):
     if access == "ptr":
         first = contents[0]
-        whole = isinstance(first, tuple) and contents == [(first[0], part) for part in range(8)]
+        whole = isinstance(first[0], tuple) and contents == [(first[0], part) for part in range(8)]
         return first[0] if whole else None
-    if not all(isinstance(byte, int) for byte in contents):
+    if any(isinstance(first, tuple) or second for first, second in contents):
         return None
-    number = int.from_bytes(bytes(contents), "little")
+    number = int.from_bytes(bytes(first for first, _ in contents), "little")
     return number if number < 2 ** int(access[1:]) else None
 
 
@@ -261,8 +278,9 @@ def stored(access, value):
     if access == "ptr" and isinstance(value, tuple):
         return [(value, part) for part in range(8)]
     if access != "ptr" and isinstance(value, int):
-        return list(value.to_bytes(size_of(access), "little"))
-    return [None] * size_of(access)
+        return [(byte, 0) for byte in value.to_bytes(size_of(access), "little")]
+    bits = 64 if access == "ptr" else int(access[1:])
+    return [(0, byte) for byte in (2**bits - 1).to_bytes(size_of(access), "little")]
 
 
 def load_row(access, align, address):

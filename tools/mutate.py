@@ -396,7 +396,7 @@ def rows_of(status, output):
     status don't agree."""
     lines, rows = output.split("\n"), []
     last = LAST.match(lines[-2]) if len(lines) > 2 else None
-    if not last or lines[-1] or not lines[0].startswith("tv 1 turns 1 "):
+    if not last or lines[-1] or not lines[0].startswith("tv 2 turns 1 "):
         raise Wrong(f"no report: {output[:200]!r}")
     for line in lines[1:-2]:
         row = ROW.match(line)

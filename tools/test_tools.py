@@ -949,7 +949,7 @@ def pages(bench):
         '<div class="new"><span class="no">+ 10</span>  %r = sub i8')
     equal(re.findall(r'<details id="f-([^"]*)"( open)?', done.stdout)[:2],
           [("bad_sum", " open"), ("never", "")], "the order of the functions")
-    bench.write("report", "tv 1 turns 4\n@twice unknown rounds\n")
+    bench.write("report", "tv 2 turns 4\n@twice unknown rounds\n")
     bench.run("tv-html", ARITH, "after.ll", "--report", "report", "-o", "page.html")
     has(bench.file("page.html"), "@twice unknown rounds")
 
@@ -963,7 +963,7 @@ def baseline(bench):
             ("wrong", "refused source Unsupported 3:4",
              ["unknown weight", "incorrect\n  arg 0 = 1\n  source ub"], "correct 0"),
             ("cut", "correct", kinds, "@d correct")]:
-        bench.write(name, f"tv 1 turns 4\n@a {a}\n@b {b}\n@c {c}\n{end}\n")
+        bench.write(name, f"tv 2 turns 4\n@a {a}\n@b {b}\n@c {c}\n{end}\n")
     for report, args, status, wanted in [
             ("old", [], 1, ["new: f @a refused source Unsupported", "new: f @b unknown weight"]),
             ("old", ["--write"], 0, ["rows 3 incorrect 0 new 0 gone 0"]),
@@ -1057,7 +1057,7 @@ def printed_modules():
 def llvm_reads_printed(bench):
     opt = bench.variables["TV_OPT"]
     modules = list(printed_modules())
-    equal(len(modules), 9, "number of printed modules")
+    equal(len(modules), 11, "number of printed modules")
     for name, module in modules:
         if llvm_version(opt) < 20:
             module = module.replace("icmp samesign", "icmp")
@@ -1357,13 +1357,13 @@ def longest_function(bench):
             ("longer", 131072, 3, "refused source Limit 65538:3")):
         found = answered(bench, "check", source, "A", "--turns", "0", "--weight", str(weight))
         kind = row.split()[0]
-        wanted = (f"tv 1 turns 0 blocks 2 bytes 8 rounds 64 conflicts 0 weight {weight}\n@f {row}\n"
+        wanted = (f"tv 2 turns 0 blocks 2 bytes 8 rounds 64 conflicts 0 weight {weight}\n@f {row}\n"
                   + NO_ROWS.replace(f"{kind} 0", f"{kind} 1", 1))
         equal(found, (status, wanted), f"answer for {source} at {weight}")
 
 
 def most_functions(bench):
-    wanted = ("tv 1 turns 4 blocks 2 bytes 8 rounds 64 conflicts 0 weight 100000\n"
+    wanted = ("tv 2 turns 4 blocks 2 bytes 8 rounds 64 conflicts 0 weight 100000\n"
               "make seed 1 functions 4096 insts 1\n"
               + NO_ROWS.replace("correct 0 incorrect 0", "correct 4013 incorrect 83"))
     for workers in ("1", "64"):

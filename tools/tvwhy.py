@@ -40,8 +40,7 @@ ADVICE = {
              "more than 64 of them: freeze it first, or put a parameter for it",
     "pointer cast": "casts of pointers are not read: write the address by getelementptr",
     "atomic": "atomic and volatile accesses are not read",
-    "type": "a type that is not read here: integers have 1 to 64 bits, memory holds i8, i16, "
-            "i32, i64 and ptr",
+    "type": "a type that is not read here: an integer has 1 to 64 bits, a pointer is ptr",
     "data layout": "tv judges 64-bit little-endian targets: give both modules such a layout; "
                    "--lower takes it away where a function has no memory",
     "limit": "past a limit of docs/REPORT.md: make the number or the function smaller",

@@ -285,7 +285,7 @@ def exits_on_error(bench):
 def report_is_read_by_baseline(bench):
     for _ in range(2):
         bench.opt(SUM, "wrong-sub", "-tv-report=rows", "-tv-functions=other", TV=bench.program(
-            "refuses", "echo 'tv 1'; echo '@other unknown weight'; echo 'correct 0'; exit 2"))
+            "refuses", "echo 'tv 2'; echo '@other unknown weight'; echo 'correct 0'; exit 2"))
     with open(bench.path("rows")) as file:
         lines = [json.loads(line) for line in file]
     equal([line["kind"] for line in lines], ["unknown", "end"] * 2, "the lines")
@@ -398,7 +398,7 @@ def answers_in_process(bench):
                          TV=bench.program("fails", body + "\n"))
         within(f"tv: SubtractPass @sum {row}", done.stderr, body)
         equal(done.returncode, 0, f"the status after {body}")
-    long = bench.program("long", "echo 'tv 1'; echo '@sum incorrect'; "
+    long = bench.program("long", "echo 'tv 2'; echo '@sum incorrect'; "
                          "yes '  arg 0 = 1' | head -n 20000; echo incorrect 1; exit 1\n")
     done = bench.opt(SUM, "wrong-sub", "-tv-in-process", "-tv-functions=sum", plugin=STAND_IN,
                      TV=long, STAND_IN_LOG="log")

@@ -1,5 +1,5 @@
 -- The text of a report: a first line, the rows with their counterexamples, and a last line of counts.
-use Rattle.std.specs.Prelude.{ℕ, Bool, true, false, ◌+◌, List, [], ◌∷◌, ◌++◌, take, Option, None, Some, codes, nat_lt, if◌then◌else◌}
+use Rattle.std.specs.Prelude.{ℕ, Bool, true, false, ◌+◌, List, [], ◌∷◌, ◌++◌, take, Option, None, Some, codes, nat_eq, nat_lt, if◌then◌else◌}
 use Rattle.std.specs.Fmt.{decimal}
 use Rattle.std.specs.List.{flat_map}
 use Rattle.ir_tree.specs.declared.module.Reason.{Reason}
@@ -52,11 +52,14 @@ value_text (value.Num n) = decimal n
 value_text value.Poison = codes "poison"
 value_text (value.Ptr p) = pointer_text p
 
--- two digits, `--` for poison, or a pointer and which part of it
+-- two digits, `--` where all bits are poison, and where some are the two digits of those after a tilde
+abbrev pub bits_text : (number mask : ℕ) → List ℕ
+bits_text number mask = if nat_eq mask 0 then hex_byte 97 number else if nat_eq mask 255 then codes "--" else hex_byte 97 number ++ codes "~" ++ hex_byte 97 mask
+
+-- bits, or a pointer and which part of it
 abbrev pub byte_text : Byte → List ℕ
-byte_text (byte.Num n) = hex_byte 97 n
+byte_text (byte.Bits number mask) = bits_text number mask
 byte_text (byte.Part p place) = pointer_text p ++ codes "/" ++ decimal place
-byte_text byte.Poison = codes "--"
 
 -- a byte after a space
 abbrev pub spaced_byte : Byte → List ℕ
@@ -165,7 +168,7 @@ abbrev pub counted : List ℕ → ℕ → List ℕ
 counted label n = label ++ decimal n
 
 abbrev pub bounds_text : Bounds → List ℕ
-bounds_text bounds = counted (codes "tv 1 turns ") bounds.turns ++ counted (codes " blocks ") bounds.blocks ++ counted (codes " bytes ") bounds.bytes
+bounds_text bounds = counted (codes "tv 2 turns ") bounds.turns ++ counted (codes " blocks ") bounds.blocks ++ counted (codes " bytes ") bounds.bytes
 
 abbrev pub budget_text : Budget → List ℕ
 budget_text budget = counted (codes " rounds ") budget.rounds ++ counted (codes " conflicts ") budget.conflicts ++ counted (codes " weight ") budget.weight

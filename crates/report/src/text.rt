@@ -192,7 +192,7 @@ fn push_line_end(out: &mut Vec<u8>, first: bool) -> Result<(), NoMemory>
 fn push_bounds(alloc: Global, out: &mut Vec<u8>, bounds: &Bounds) -> Result<(), NoMemory>
     ensures { OnOk result (out.new.items ≡ out.old.items ++ bounds_text bounds.now) }
 {
-    push_counted(alloc, out, b"tv 1 turns ", bounds.turns)?;
+    push_counted(alloc, out, b"tv 2 turns ", bounds.turns)?;
     push_counted(alloc, out, b" blocks ", bounds.blocks)?;
     push_counted(alloc, out, b" bytes ", bounds.bytes)
 }

@@ -1,7 +1,7 @@
 ghost use Rattle.std.specs.Prelude.{◌≡◌, ◌++◌, ◌<◌, nat_lt, if◌then◌else◌, [], take, OnOk};
 ghost use Rattle.std.specs.Fmt.{decimal};
 ghost use Rattle.std.specs.List.{flat_map};
-ghost use Rattle.report.specs.Text.{given_text, pointer_text, value_text, byte_text, spaced_byte, bytes_line, block_line, block_lines, newline};
+ghost use Rattle.report.specs.Text.{given_text, pointer_text, value_text, bits_text, byte_text, spaced_byte, bytes_line, block_line, block_lines, newline};
 
 use byte_block::{BlockName, Byte, MemoryBlock, Ptr, Value};
 use ir_naming::push_hex_byte;
@@ -54,16 +54,27 @@ pub(crate) fn push_value(alloc: Global, out: &mut Vec<u8>, value: Value) -> Resu
     }
 }
 
+fn push_bits(out: &mut Vec<u8>, number: u8, mask: u8) -> Result<(), NoMemory>
+    ensures { OnOk result (out.new.items ≡ out.old.items ++ bits_text number mask) }
+{
+    if mask == 0 {
+        return push_hex_byte(out, number, b'a');
+    }
+    if mask == u8::MAX {
+        out.extend_from_slice(b"--")?;
+        return Ok(());
+    }
+    push_hex_byte(out, number, b'a')?;
+    out.extend_from_slice(b"~")?;
+    push_hex_byte(out, mask, b'a')
+}
+
 fn push_byte(alloc: Global, out: &mut Vec<u8>, byte: Byte) -> Result<(), NoMemory>
     ensures { OnOk result (out.new.items ≡ out.old.items ++ byte_text byte) }
 {
     match byte {
-        Byte::Num(n) => push_hex_byte(out, n, b'a'),
+        Byte::Bits { number, mask } => push_bits(out, number, mask),
         Byte::Part(pointer, place) => push_part(alloc, out, pointer, place),
-        Byte::Poison => {
-            out.extend_from_slice(b"--")?;
-            Ok(())
-        }
     }
 }
 

@@ -17,7 +17,7 @@ define i4 @f() {
   ret i4 3
 }
 --- 0
-tv 1 turns 0 blocks 2 bytes 8 rounds 64 conflicts 0 weight 100000
+tv 2 turns 0 blocks 2 bytes 8 rounds 64 conflicts 0 weight 100000
 @f correct
 correct 1 incorrect 0 unknown 0 refused 0 signature 0 missing 0 extra 0
 === without a round that choice is not found
@@ -32,7 +32,7 @@ define i4 @f() {
   ret i4 3
 }
 --- 2
-tv 1 turns 0 blocks 2 bytes 8 rounds 0 conflicts 0 weight 100000
+tv 2 turns 0 blocks 2 bytes 8 rounds 0 conflicts 0 weight 100000
 @f unknown rounds
 correct 0 incorrect 0 unknown 1 refused 0 signature 0 missing 0 extra 0
 === the default number of rounds may be given
@@ -47,7 +47,7 @@ define i4 @f() {
   ret i4 3
 }
 --- 0
-tv 1 turns 4 blocks 2 bytes 8 rounds 64 conflicts 0 weight 100000
+tv 2 turns 4 blocks 2 bytes 8 rounds 64 conflicts 0 weight 100000
 @f correct
 correct 1 incorrect 0 unknown 0 refused 0 signature 0 missing 0 extra 0
 === the least choice that the source lacks is shown
@@ -63,7 +63,7 @@ entry:
   ret i8 %a
 }
 --- 1
-tv 1 turns 0 blocks 2 bytes 8 rounds 64 conflicts 0 weight 100000
+tv 2 turns 0 blocks 2 bytes 8 rounds 64 conflicts 0 weight 100000
 @f incorrect
   choice 0 = 0
   source returns 7
@@ -80,7 +80,7 @@ define i8 @f() {
   ret i8 undef
 }
 --- 1
-tv 1 turns 0 blocks 2 bytes 8 rounds 64 conflicts 0 weight 100000
+tv 2 turns 0 blocks 2 bytes 8 rounds 64 conflicts 0 weight 100000
 @f incorrect
   choice 0 = 0
   source returns 5
@@ -97,7 +97,7 @@ define i8 @f() {
   ret i8 5
 }
 --- 0
-tv 1 turns 0 blocks 2 bytes 8 rounds 64 conflicts 0 weight 100000
+tv 2 turns 0 blocks 2 bytes 8 rounds 64 conflicts 0 weight 100000
 @f correct
 correct 1 incorrect 0 unknown 0 refused 0 signature 0 missing 0 extra 0
 === a frozen value is the same at each use
@@ -113,7 +113,7 @@ define i8 @f() {
   ret i8 0
 }
 --- 0
-tv 1 turns 0 blocks 2 bytes 8 rounds 64 conflicts 0 weight 100000
+tv 2 turns 0 blocks 2 bytes 8 rounds 64 conflicts 0 weight 100000
 @f correct
 correct 1 incorrect 0 unknown 0 refused 0 signature 0 missing 0 extra 0
 === a choice without effect is no difference
@@ -129,7 +129,7 @@ define i8 @f() {
   ret i8 %b
 }
 --- 0
-tv 1 turns 0 blocks 2 bytes 8 rounds 64 conflicts 0 weight 100000
+tv 2 turns 0 blocks 2 bytes 8 rounds 64 conflicts 0 weight 100000
 @f correct
 correct 1 incorrect 0 unknown 0 refused 0 signature 0 missing 0 extra 0
 === fifteen of sixteen arguments take a round each
@@ -145,7 +145,7 @@ define i4 @f(i4 %x) {
   ret i4 0
 }
 --- 0
-tv 1 turns 4 blocks 2 bytes 8 rounds 15 conflicts 0 weight 100000
+tv 2 turns 4 blocks 2 bytes 8 rounds 15 conflicts 0 weight 100000
 @f correct
 correct 1 incorrect 0 unknown 0 refused 0 signature 0 missing 0 extra 0
 === fourteen rounds are one too few
@@ -161,7 +161,7 @@ define i4 @f(i4 %x) {
   ret i4 0
 }
 --- 2
-tv 1 turns 4 blocks 2 bytes 8 rounds 14 conflicts 0 weight 100000
+tv 2 turns 4 blocks 2 bytes 8 rounds 14 conflicts 0 weight 100000
 @f unknown rounds
 correct 0 incorrect 0 unknown 1 refused 0 signature 0 missing 0 extra 0
 ";
@@ -180,7 +180,7 @@ define i4 @f() {
   ret i4 3
 }
 --- 0
-tv 1 turns 4 blocks 2 bytes 8 rounds 64 conflicts 0 weight 100000
+tv 2 turns 4 blocks 2 bytes 8 rounds 64 conflicts 0 weight 100000
 @f correct
 correct 1 incorrect 0 unknown 0 refused 0 signature 0 missing 0 extra 0
 === without a round it is not found
@@ -195,7 +195,7 @@ define i4 @f() {
   ret i4 3
 }
 --- 2
-tv 1 turns 4 blocks 2 bytes 8 rounds 0 conflicts 0 weight 100000
+tv 2 turns 4 blocks 2 bytes 8 rounds 0 conflicts 0 weight 100000
 @f unknown rounds
 correct 0 incorrect 0 unknown 1 refused 0 signature 0 missing 0 extra 0
 === undef is a choice that the source lacks
@@ -209,7 +209,7 @@ define i8 @f() {
   ret i8 undef
 }
 --- 1
-tv 1 turns 4 blocks 2 bytes 8 rounds 64 conflicts 0 weight 100000
+tv 2 turns 4 blocks 2 bytes 8 rounds 64 conflicts 0 weight 100000
 @f incorrect
   choice 0 = 0
   source returns 5
@@ -226,7 +226,7 @@ define i8 @f() {
   ret i8 5
 }
 --- 0
-tv 1 turns 4 blocks 2 bytes 8 rounds 64 conflicts 0 weight 100000
+tv 2 turns 4 blocks 2 bytes 8 rounds 64 conflicts 0 weight 100000
 @f correct
 correct 1 incorrect 0 unknown 0 refused 0 signature 0 missing 0 extra 0
 === a choice minus itself is zero
@@ -242,7 +242,7 @@ define i8 @f() {
   ret i8 0
 }
 --- 0
-tv 1 turns 4 blocks 2 bytes 8 rounds 64 conflicts 0 weight 100000
+tv 2 turns 4 blocks 2 bytes 8 rounds 64 conflicts 0 weight 100000
 @f correct
 correct 1 incorrect 0 unknown 0 refused 0 signature 0 missing 0 extra 0
 ";
@@ -261,7 +261,7 @@ define i8 @f() {
   ret i8 1
 }
 --- 0
-tv 1 turns 4 blocks 2 bytes 8 rounds 64 conflicts 0 weight 100000
+tv 2 turns 4 blocks 2 bytes 8 rounds 64 conflicts 0 weight 100000
 @f correct
 correct 1 incorrect 0 unknown 0 refused 0 signature 0 missing 0 extra 0
 === nor is it without a round
@@ -277,7 +277,7 @@ define i8 @f() {
   ret i8 1
 }
 --- 2
-tv 1 turns 4 blocks 2 bytes 8 rounds 0 conflicts 0 weight 100000
+tv 2 turns 4 blocks 2 bytes 8 rounds 0 conflicts 0 weight 100000
 @f unknown rounds
 correct 0 incorrect 0 unknown 1 refused 0 signature 0 missing 0 extra 0
 === where it is frozen it is one value
@@ -294,7 +294,7 @@ define i8 @f() {
   ret i8 1
 }
 --- 1
-tv 1 turns 4 blocks 2 bytes 8 rounds 64 conflicts 0 weight 100000
+tv 2 turns 4 blocks 2 bytes 8 rounds 64 conflicts 0 weight 100000
 @f incorrect
   source returns 0
   target returns 1
@@ -312,7 +312,7 @@ define i4 @f() {
   ret i4 %b
 }
 --- 1
-tv 1 turns 4 blocks 2 bytes 8 rounds 64 conflicts 0 weight 100000
+tv 2 turns 4 blocks 2 bytes 8 rounds 64 conflicts 0 weight 100000
 @f incorrect
   choice 0 = 0
   choice 1 = 1
@@ -332,7 +332,7 @@ define i4 @f() {
   ret i4 %b
 }
 --- 1
-tv 1 turns 4 blocks 2 bytes 8 rounds 64 conflicts 0 weight 100000
+tv 2 turns 4 blocks 2 bytes 8 rounds 64 conflicts 0 weight 100000
 @f incorrect
   choice 0 = 0
   choice 1 = 1
@@ -351,7 +351,7 @@ define i4 @f() {
   ret i4 undef
 }
 --- 1
-tv 1 turns 4 blocks 2 bytes 8 rounds 64 conflicts 0 weight 100000
+tv 2 turns 4 blocks 2 bytes 8 rounds 64 conflicts 0 weight 100000
 @f incorrect
   choice 0 = 1
   source returns 0
@@ -369,7 +369,7 @@ define i4 @f(i4 %x, i4 %y) {
   ret i4 %y
 }
 --- 0
-tv 1 turns 4 blocks 2 bytes 8 rounds 64 conflicts 0 weight 100000
+tv 2 turns 4 blocks 2 bytes 8 rounds 64 conflicts 0 weight 100000
 @f correct
 correct 1 incorrect 0 unknown 0 refused 0 signature 0 missing 0 extra 0
 === a sum with undef is any number, which takes too many rounds
@@ -384,7 +384,7 @@ define i8 @f(i8 %x) {
   ret i8 undef
 }
 --- 2
-tv 1 turns 4 blocks 2 bytes 8 rounds 64 conflicts 0 weight 100000
+tv 2 turns 4 blocks 2 bytes 8 rounds 64 conflicts 0 weight 100000
 @f unknown rounds
 correct 0 incorrect 0 unknown 1 refused 0 signature 0 missing 0 extra 0
 === a register that undef makes may not be branched on
@@ -403,7 +403,7 @@ define i8 @f() {
   ret i8 0
 }
 --- 3
-tv 1 turns 4 blocks 2 bytes 8 rounds 64 conflicts 0 weight 100000
+tv 2 turns 4 blocks 2 bytes 8 rounds 64 conflicts 0 weight 100000
 @f refused source UndefUse 3:9
 correct 0 incorrect 0 unknown 0 refused 1 signature 0 missing 0 extra 0
 === a tree weighs at each use what made it
@@ -420,7 +420,7 @@ define i8 @f() {
   ret i8 1
 }
 --- 0
-tv 1 turns 0 blocks 2 bytes 8 rounds 64 conflicts 0 weight 42
+tv 2 turns 0 blocks 2 bytes 8 rounds 64 conflicts 0 weight 42
 @f correct
 correct 1 incorrect 0 unknown 0 refused 0 signature 0 missing 0 extra 0
 === and not less
@@ -437,7 +437,7 @@ define i8 @f() {
   ret i8 1
 }
 --- 2
-tv 1 turns 0 blocks 2 bytes 8 rounds 64 conflicts 0 weight 41
+tv 2 turns 0 blocks 2 bytes 8 rounds 64 conflicts 0 weight 41
 @f unknown weight
 correct 0 incorrect 0 unknown 1 refused 0 signature 0 missing 0 extra 0
 ";

@@ -24,7 +24,7 @@ const TARGET: &str = "define i8 @r2(i8 %x) {\n  ret i8 %x\n}\n\
      define i8 @r5(i8 %x) {\n  ret i8 7\n}\n\
      define i8 @r6(i8 %x) {\n  ret i8 %x\n}\n";
 
-const FIRST: &str = "tv 1 turns 4 blocks 2 bytes 8 rounds 64 conflicts 0 weight 100000 first
+const FIRST: &str = "tv 2 turns 4 blocks 2 bytes 8 rounds 64 conflicts 0 weight 100000 first
 @r2 correct
 @r3 incorrect
   arg 0 = 0
@@ -73,7 +73,7 @@ define i8 @h() {
   ret i8 7
 }
 --- 3
-tv 1 turns 4 blocks 2 bytes 8 rounds 64 conflicts 0 weight 100000 first
+tv 2 turns 4 blocks 2 bytes 8 rounds 64 conflicts 0 weight 100000 first
 @f missing
 @g correct
 @h extra
@@ -85,7 +85,7 @@ tv check --first A B
 --- B
 ; no function
 --- 0
-tv 1 turns 4 blocks 2 bytes 8 rounds 64 conflicts 0 weight 100000 first
+tv 2 turns 4 blocks 2 bytes 8 rounds 64 conflicts 0 weight 100000 first
 correct 0 incorrect 0 unknown 0 refused 0 signature 0 missing 0 extra 0
 === a row that ends no report comes before one that does
 tv check --first A B
@@ -110,7 +110,7 @@ define i8 @e() {
   ret i8 6
 }
 --- 1
-tv 1 turns 4 blocks 2 bytes 8 rounds 64 conflicts 0 weight 100000 first
+tv 2 turns 4 blocks 2 bytes 8 rounds 64 conflicts 0 weight 100000 first
 @f missing
 @g incorrect
   source returns 7

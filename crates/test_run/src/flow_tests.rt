@@ -20,7 +20,7 @@ define i8 @f() {
   ret i8 2
 }
 --- 0
-tv 1 turns 0 blocks 2 bytes 8 rounds 64 conflicts 0 weight 100000
+tv 2 turns 0 blocks 2 bytes 8 rounds 64 conflicts 0 weight 100000
 @f correct
 correct 1 incorrect 0 unknown 0 refused 0 signature 0 missing 0 extra 0
 === a target past the bound is not asked about
@@ -39,7 +39,7 @@ b:
   br label %a
 }
 --- 0
-tv 1 turns 0 blocks 2 bytes 8 rounds 64 conflicts 0 weight 100000
+tv 2 turns 0 blocks 2 bytes 8 rounds 64 conflicts 0 weight 100000
 @f correct
 correct 1 incorrect 0 unknown 0 refused 0 signature 0 missing 0 extra 0
 === within the bound the source counts
@@ -58,7 +58,7 @@ define i8 @f() {
   ret i8 2
 }
 --- 1
-tv 1 turns 1 blocks 2 bytes 8 rounds 64 conflicts 0 weight 100000
+tv 2 turns 1 blocks 2 bytes 8 rounds 64 conflicts 0 weight 100000
 @f incorrect
   source returns 1
   target returns 2
@@ -79,7 +79,7 @@ b:
   br label %a
 }
 --- 1
-tv 1 turns 1 blocks 2 bytes 8 rounds 64 conflicts 0 weight 100000
+tv 2 turns 1 blocks 2 bytes 8 rounds 64 conflicts 0 weight 100000
 @f incorrect
   source returns 2
   target returns 1
@@ -113,7 +113,7 @@ done:
   ret i8 %r
 }
 --- 0
-tv 1 turns 2 blocks 2 bytes 8 rounds 64 conflicts 0 weight 100000
+tv 2 turns 2 blocks 2 bytes 8 rounds 64 conflicts 0 weight 100000
 @f correct
 correct 1 incorrect 0 unknown 0 refused 0 signature 0 missing 0 extra 0
 === three backward jumps reach it
@@ -145,7 +145,7 @@ done:
   ret i8 %r
 }
 --- 1
-tv 1 turns 3 blocks 2 bytes 8 rounds 64 conflicts 0 weight 100000
+tv 2 turns 3 blocks 2 bytes 8 rounds 64 conflicts 0 weight 100000
 @f incorrect
   arg 0 = 4
   source returns 4
@@ -168,7 +168,7 @@ define i8 @f(i8 %x) {
   ret i8 %r
 }
 --- 0
-tv 1 turns 4 blocks 2 bytes 8 rounds 64 conflicts 0 weight 100000
+tv 2 turns 4 blocks 2 bytes 8 rounds 64 conflicts 0 weight 100000
 @f correct
 correct 1 incorrect 0 unknown 0 refused 0 signature 0 missing 0 extra 0
 === a switch on poison is undefined behavior
@@ -188,7 +188,7 @@ d:
   ret i8 0
 }
 --- 1
-tv 1 turns 4 blocks 2 bytes 8 rounds 64 conflicts 0 weight 100000
+tv 2 turns 4 blocks 2 bytes 8 rounds 64 conflicts 0 weight 100000
 @f incorrect
   arg 0 = poison
   source returns poison
@@ -214,7 +214,7 @@ define i8 @f(i1 %c, i8 %a) {
   ret i8 %r
 }
 --- 0
-tv 1 turns 1 blocks 2 bytes 8 rounds 64 conflicts 0 weight 100000
+tv 2 turns 1 blocks 2 bytes 8 rounds 64 conflicts 0 weight 100000
 @f correct
 correct 1 incorrect 0 unknown 0 refused 0 signature 0 missing 0 extra 0
 ";

@@ -5,7 +5,7 @@ use points::{Bounds, Budget};
 use std::test::*;
 use tv_run::{check_texts, run_in_memory};
 
-const REPORT: &str = "tv 1 turns 4 blocks 2 bytes 8 rounds 64 conflicts 0 weight 100000
+const REPORT: &str = "tv 2 turns 4 blocks 2 bytes 8 rounds 64 conflicts 0 weight 100000
 @f correct
 correct 1 incorrect 0 unknown 0 refused 0 signature 0 missing 0 extra 0
 ";
@@ -42,7 +42,7 @@ define i8 @g(i8 %x) {
   ret i8 0
 }
 --- 1
-tv 1 turns 2 blocks 2 bytes 8 rounds 64 conflicts 0 weight 100000
+tv 2 turns 2 blocks 2 bytes 8 rounds 64 conflicts 0 weight 100000
 @f correct
 @g incorrect
   arg 0 = 1

@@ -9,8 +9,8 @@ fn a_sink_fails_at_its_second_call(rt: HostRuntime) -> Result<(), Fail> {
     let alloc = rt.alloc();
     let fails = vec![in alloc; 2]?;
     let mut sink = FailingSink::new(alloc, 100, 10, fails)?;
-    let written = write_whole(&mut sink, b"tv 1 turns 4 blocks 2");
-    if written.is_err() && sink.sink.bytes.as_slice() == b"tv 1 turns".as_slice() {
+    let written = write_whole(&mut sink, b"tv 2 turns 4 blocks 2");
+    if written.is_err() && sink.sink.bytes.as_slice() == b"tv 2 turns".as_slice() {
         Ok(())
     } else {
         Err(Fail::new("other bytes"))

@@ -33,7 +33,7 @@ done:
   ret i8 %j
 }
 --- 2
-tv 1 turns 64 blocks 2 bytes 8 rounds 64 conflicts 0 weight 4549
+tv 2 turns 64 blocks 2 bytes 8 rounds 64 conflicts 0 weight 4549
 @f unknown weight
 correct 0 incorrect 0 unknown 1 refused 0 signature 0 missing 0 extra 0
 === a loop runs sixty-four backward jumps
@@ -63,7 +63,7 @@ done:
   ret i8 %j
 }
 --- 0
-tv 1 turns 64 blocks 2 bytes 8 rounds 64 conflicts 0 weight 100000
+tv 2 turns 64 blocks 2 bytes 8 rounds 64 conflicts 0 weight 100000
 @f correct
 correct 1 incorrect 0 unknown 0 refused 0 signature 0 missing 0 extra 0
 ";

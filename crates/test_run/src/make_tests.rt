@@ -11,7 +11,7 @@ tv make --seed 1 --functions 2 --insts 2
 --- A
 --- B
 --- 1
-tv 1 turns 4 blocks 2 bytes 8 rounds 64 conflicts 0 weight 100000
+tv 2 turns 4 blocks 2 bytes 8 rounds 64 conflicts 0 weight 100000
 make seed 1 functions 2 insts 2
 correct 1 incorrect 1 unknown 0 refused 0 signature 0 missing 0 extra 0
 === the usual sizes
@@ -19,7 +19,7 @@ tv make
 --- A
 --- B
 --- 1
-tv 1 turns 4 blocks 2 bytes 8 rounds 64 conflicts 0 weight 100000
+tv 2 turns 4 blocks 2 bytes 8 rounds 64 conflicts 0 weight 100000
 make seed 1 functions 16 insts 8
 correct 15 incorrect 1 unknown 0 refused 0 signature 0 missing 0 extra 0
 === a weight that is too large
@@ -27,7 +27,7 @@ tv make --functions 1 --insts 1 --turns 0 --weight 17
 --- A
 --- B
 --- 2
-tv 1 turns 0 blocks 2 bytes 8 rounds 64 conflicts 0 weight 17
+tv 2 turns 0 blocks 2 bytes 8 rounds 64 conflicts 0 weight 17
 make seed 1 functions 1 insts 1
 correct 0 incorrect 0 unknown 1 refused 0 signature 0 missing 0 extra 0
 === no file is looked at
@@ -71,7 +71,7 @@ fn a_sink_that_fails_keeps_a_prefix(rt: HostRuntime) -> Result<(), Fail> {
     let mut shelf = shelf_of(rt.alloc(), b"", b"")?;
     let line = "tv make --functions 1 --insts 1";
     let (bytes, status) = written_until(&rt, &mut shelf, line, 2)?;
-    if status == 7 && bytes.as_slice() == b"tv 1 turns".as_slice() {
+    if status == 7 && bytes.as_slice() == b"tv 2 turns".as_slice() {
         Ok(())
     } else {
         Err(Fail::new(format_args!("status {status}")))

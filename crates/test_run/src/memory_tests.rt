@@ -18,7 +18,7 @@ define i8 @f(i8 %x) {
   ret i8 %x
 }
 --- 0
-tv 1 turns 4 blocks 2 bytes 8 rounds 64 conflicts 0 weight 100000
+tv 2 turns 4 blocks 2 bytes 8 rounds 64 conflicts 0 weight 100000
 @f correct
 correct 1 incorrect 0 unknown 0 refused 0 signature 0 missing 0 extra 0
 === a pointer's bytes are no number, so poison may be returned
@@ -35,7 +35,7 @@ define i64 @f(ptr %p) {
   ret i64 poison
 }
 --- 0
-tv 1 turns 4 blocks 2 bytes 8 rounds 64 conflicts 0 weight 100000
+tv 2 turns 4 blocks 2 bytes 8 rounds 64 conflicts 0 weight 100000
 @f correct
 correct 1 incorrect 0 unknown 0 refused 0 signature 0 missing 0 extra 0
 === a pointer's bytes are no number, so zero may be returned
@@ -52,7 +52,7 @@ define i64 @f(ptr %p) {
   ret i64 0
 }
 --- 0
-tv 1 turns 4 blocks 2 bytes 8 rounds 64 conflicts 0 weight 100000
+tv 2 turns 4 blocks 2 bytes 8 rounds 64 conflicts 0 weight 100000
 @f correct
 correct 1 incorrect 0 unknown 0 refused 0 signature 0 missing 0 extra 0
 === zero may not become a pointer's bytes
@@ -69,7 +69,7 @@ define i64 @f(ptr %p) {
   ret i64 %v
 }
 --- 1
-tv 1 turns 4 blocks 2 bytes 8 rounds 64 conflicts 0 weight 100000
+tv 2 turns 4 blocks 2 bytes 8 rounds 64 conflicts 0 weight 100000
 @f incorrect
   arg 0 = null+0
   source returns 0
@@ -88,7 +88,7 @@ define ptr @f(ptr %p) {
   ret ptr %q
 }
 --- 1
-tv 1 turns 4 blocks 2 bytes 8 rounds 64 conflicts 0 weight 100000
+tv 2 turns 4 blocks 2 bytes 8 rounds 64 conflicts 0 weight 100000
 @f incorrect
   arg 0 = null+0
   source returns null+1
@@ -107,7 +107,7 @@ define ptr @f(ptr %p) {
   ret ptr %q
 }
 --- 0
-tv 1 turns 4 blocks 2 bytes 8 rounds 64 conflicts 0 weight 100000
+tv 2 turns 4 blocks 2 bytes 8 rounds 64 conflicts 0 weight 100000
 @f correct
 correct 1 incorrect 0 unknown 0 refused 0 signature 0 missing 0 extra 0
 === a dead pointer is not null
@@ -122,7 +122,7 @@ define ptr @f() {
   ret ptr null
 }
 --- 1
-tv 1 turns 4 blocks 2 bytes 8 rounds 64 conflicts 0 weight 100000
+tv 2 turns 4 blocks 2 bytes 8 rounds 64 conflicts 0 weight 100000
 @f incorrect
   source returns dead
   target returns null+0
@@ -148,7 +148,7 @@ define void @f(ptr %p) {
   ret void
 }
 --- 1
-tv 1 turns 4 blocks 2 bytes 8 rounds 64 conflicts 0 weight 100000
+tv 2 turns 4 blocks 2 bytes 8 rounds 64 conflicts 0 weight 100000
 @f incorrect
   arg 0 = given1+0
   block 1 = 00
@@ -170,7 +170,7 @@ define void @f(ptr %p) {
   ret void
 }
 --- 1
-tv 1 turns 4 blocks 1 bytes 8 rounds 64 conflicts 0 weight 100000
+tv 2 turns 4 blocks 1 bytes 8 rounds 64 conflicts 0 weight 100000
 @f incorrect
   arg 0 = given1+0
   block 1 = 00 00 00 00 00 00 00 00
@@ -193,7 +193,7 @@ define void @f(ptr %p, ptr %q) {
   ret void
 }
 --- 1
-tv 1 turns 4 blocks 1 bytes 8 rounds 64 conflicts 0 weight 100000
+tv 2 turns 4 blocks 1 bytes 8 rounds 64 conflicts 0 weight 100000
 @f incorrect
   arg 0 = given1+0
   arg 1 = null+0
@@ -218,7 +218,7 @@ define void @f(ptr %p, ptr %q) {
   ret void
 }
 --- 1
-tv 1 turns 4 blocks 1 bytes 8 rounds 64 conflicts 0 weight 100000
+tv 2 turns 4 blocks 1 bytes 8 rounds 64 conflicts 0 weight 100000
 @f incorrect
   arg 0 = given1+0
   arg 1 = given1+0
@@ -250,7 +250,7 @@ define void @f(ptr %p) {
   ret void
 }
 --- 1
-tv 1 turns 4 blocks 2 bytes 8 rounds 64 conflicts 0 weight 100000
+tv 2 turns 4 blocks 2 bytes 8 rounds 64 conflicts 0 weight 100000
 @f incorrect
   arg 0 = given1+1
   block 1 = 00 00 00
@@ -271,7 +271,7 @@ define void @f(ptr %p) {
   ret void
 }
 --- 0
-tv 1 turns 4 blocks 2 bytes 8 rounds 64 conflicts 0 weight 100000
+tv 2 turns 4 blocks 2 bytes 8 rounds 64 conflicts 0 weight 100000
 @f correct
 correct 1 incorrect 0 unknown 0 refused 0 signature 0 missing 0 extra 0
 ";

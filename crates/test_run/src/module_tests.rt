@@ -10,7 +10,7 @@ tv check A B
 --- A
 --- B
 --- 0
-tv 1 turns 4 blocks 2 bytes 8 rounds 64 conflicts 0 weight 100000
+tv 2 turns 4 blocks 2 bytes 8 rounds 64 conflicts 0 weight 100000
 correct 0 incorrect 0 unknown 0 refused 0 signature 0 missing 0 extra 0
 === a function refines itself
 tv check A B
@@ -23,7 +23,7 @@ define i16 @f(i16 %x) {
   ret i16 %x
 }
 --- 0
-tv 1 turns 4 blocks 2 bytes 8 rounds 64 conflicts 0 weight 100000
+tv 2 turns 4 blocks 2 bytes 8 rounds 64 conflicts 0 weight 100000
 @f correct
 correct 1 incorrect 0 unknown 0 refused 0 signature 0 missing 0 extra 0
 === a width need not be a power of two
@@ -37,7 +37,7 @@ define i17 @f(i17 %x) {
   ret i17 %x
 }
 --- 0
-tv 1 turns 4 blocks 2 bytes 8 rounds 64 conflicts 0 weight 100000
+tv 2 turns 4 blocks 2 bytes 8 rounds 64 conflicts 0 weight 100000
 @f correct
 correct 1 incorrect 0 unknown 0 refused 0 signature 0 missing 0 extra 0
 === void has no value to differ in
@@ -53,7 +53,7 @@ define void @f(i8 %x) {
   ret void
 }
 --- 0
-tv 1 turns 4 blocks 2 bytes 8 rounds 64 conflicts 0 weight 100000
+tv 2 turns 4 blocks 2 bytes 8 rounds 64 conflicts 0 weight 100000
 @f correct
 correct 1 incorrect 0 unknown 0 refused 0 signature 0 missing 0 extra 0
 === void is not a value
@@ -67,7 +67,7 @@ define i8 @f(i8 %x) {
   ret i8 %x
 }
 --- 3
-tv 1 turns 4 blocks 2 bytes 8 rounds 64 conflicts 0 weight 100000
+tv 2 turns 4 blocks 2 bytes 8 rounds 64 conflicts 0 weight 100000
 @f signature
 correct 0 incorrect 0 unknown 0 refused 0 signature 1 missing 0 extra 0
 === functions that cannot be paired are rows in order
@@ -87,7 +87,7 @@ define i8 @c() {
   ret i8 -1
 }
 --- 3
-tv 1 turns 4 blocks 2 bytes 8 rounds 64 conflicts 0 weight 100000
+tv 2 turns 4 blocks 2 bytes 8 rounds 64 conflicts 0 weight 100000
 @a signature
 @b missing
 @c extra
@@ -101,7 +101,7 @@ define i8 @f(i8 %x) {
   ret i8 %r
 }
 --- 3
-tv 1 turns 4 blocks 2 bytes 8 rounds 64 conflicts 0 weight 100000
+tv 2 turns 4 blocks 2 bytes 8 rounds 64 conflicts 0 weight 100000
 @f extra
 correct 0 incorrect 0 unknown 0 refused 0 signature 0 missing 0 extra 1
 === six pairs are reported in the order of the source
@@ -154,7 +154,7 @@ define i1 @both(i1 %a, i1 %b) {
   ret i1 %r
 }
 --- 1
-tv 1 turns 4 blocks 2 bytes 8 rounds 64 conflicts 0 weight 100000
+tv 2 turns 4 blocks 2 bytes 8 rounds 64 conflicts 0 weight 100000
 @doubled correct
 @plus_one incorrect
   arg 0 = 127
@@ -218,7 +218,7 @@ define i1 @both(i1 %a, i1 %b) {
   ret i1 %r
 }
 --- 1
-tv 1 turns 4 blocks 2 bytes 8 rounds 64 conflicts 9223372036854775807 weight 100000
+tv 2 turns 4 blocks 2 bytes 8 rounds 64 conflicts 9223372036854775807 weight 100000
 @doubled correct
 @plus_one incorrect
   arg 0 = 127
@@ -282,7 +282,7 @@ define i1 @both(i1 %a, i1 %b) {
   ret i1 %r
 }
 --- 1
-tv 1 turns 4 blocks 2 bytes 8 rounds 64 conflicts 0 weight 100000
+tv 2 turns 4 blocks 2 bytes 8 rounds 64 conflicts 0 weight 100000
 @doubled correct
 @plus_one incorrect
   arg 0 = 127
@@ -346,7 +346,7 @@ define i1 @both(i1 %a, i1 %b) {
   ret i1 %r
 }
 --- 1
-tv 1 turns 4 blocks 2 bytes 8 rounds 64 conflicts 0 weight 100000
+tv 2 turns 4 blocks 2 bytes 8 rounds 64 conflicts 0 weight 100000
 @doubled correct
 @plus_one incorrect
   arg 0 = 127
@@ -373,7 +373,7 @@ define i8 @f(i8 %x) {
   ret i8 %r
 }
 --- 2
-tv 1 turns 4 blocks 2 bytes 8 rounds 64 conflicts 0 weight 89
+tv 2 turns 4 blocks 2 bytes 8 rounds 64 conflicts 0 weight 89
 @f unknown weight
 correct 0 incorrect 0 unknown 1 refused 0 signature 0 missing 0 extra 0
 === a weight of 1 is below that of any pair
@@ -389,7 +389,7 @@ define i8 @f(i8 %x) {
   ret i8 %r
 }
 --- 2
-tv 1 turns 4 blocks 2 bytes 8 rounds 64 conflicts 0 weight 1
+tv 2 turns 4 blocks 2 bytes 8 rounds 64 conflicts 0 weight 1
 @f unknown weight
 correct 0 incorrect 0 unknown 1 refused 0 signature 0 missing 0 extra 0
 === a pair as heavy as the limit is judged
@@ -405,7 +405,7 @@ define i8 @f(i8 %x) {
   ret i8 %r
 }
 --- 0
-tv 1 turns 4 blocks 2 bytes 8 rounds 64 conflicts 0 weight 90
+tv 2 turns 4 blocks 2 bytes 8 rounds 64 conflicts 0 weight 90
 @f correct
 correct 1 incorrect 0 unknown 0 refused 0 signature 0 missing 0 extra 0
 === options may come before the files
@@ -419,7 +419,7 @@ define i16 @f(i16 %x) {
   ret i16 %x
 }
 --- 2
-tv 1 turns 4 blocks 2 bytes 8 rounds 64 conflicts 0 weight 1
+tv 2 turns 4 blocks 2 bytes 8 rounds 64 conflicts 0 weight 1
 @f unknown weight
 correct 0 incorrect 0 unknown 1 refused 0 signature 0 missing 0 extra 0
 === options may come between the files and after them
@@ -433,7 +433,7 @@ define i16 @f(i16 %x) {
   ret i16 %x
 }
 --- 0
-tv 1 turns 0 blocks 2 bytes 8 rounds 64 conflicts 100000 weight 100000
+tv 2 turns 0 blocks 2 bytes 8 rounds 64 conflicts 100000 weight 100000
 @f correct
 correct 1 incorrect 0 unknown 0 refused 0 signature 0 missing 0 extra 0
 ";

@@ -10,7 +10,7 @@ use std::thread::Threads;
 const LIMIT: usize = 16_777_216;
 
 /// The report of two empty modules.
-const EMPTY: &str = "tv 1 turns 4 blocks 2 bytes 8 rounds 64 conflicts 0 weight 100000
+const EMPTY: &str = "tv 2 turns 4 blocks 2 bytes 8 rounds 64 conflicts 0 weight 100000
 correct 0 incorrect 0 unknown 0 refused 0 signature 0 missing 0 extra 0
 ";
 

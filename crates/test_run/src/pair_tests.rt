@@ -18,7 +18,7 @@ define i8 @f(i8 %x) {
   ret i8 %r
 }
 --- 0
-tv 1 turns 4 blocks 2 bytes 8 rounds 64 conflicts 0 weight 100000
+tv 2 turns 4 blocks 2 bytes 8 rounds 64 conflicts 0 weight 100000
 @f correct
 correct 1 incorrect 0 unknown 0 refused 0 signature 0 missing 0 extra 0
 === two sums that differ have a least counterexample
@@ -34,7 +34,7 @@ define i8 @f(i8 %x) {
   ret i8 %r
 }
 --- 1
-tv 1 turns 4 blocks 2 bytes 8 rounds 64 conflicts 0 weight 100000
+tv 2 turns 4 blocks 2 bytes 8 rounds 64 conflicts 0 weight 100000
 @f incorrect
   arg 0 = 0
   source returns 0
@@ -53,7 +53,7 @@ define i8 @f(i8 %x) {
   ret i8 %r
 }
 --- 1
-tv 1 turns 4 blocks 2 bytes 8 rounds 64 conflicts 0 weight 100000
+tv 2 turns 4 blocks 2 bytes 8 rounds 64 conflicts 0 weight 100000
 @f incorrect
   arg 0 = 127
   source returns 128
@@ -72,7 +72,7 @@ define i8 @f(i8 %x) {
   ret i8 %r
 }
 --- 0
-tv 1 turns 4 blocks 2 bytes 8 rounds 64 conflicts 0 weight 100000
+tv 2 turns 4 blocks 2 bytes 8 rounds 64 conflicts 0 weight 100000
 @f correct
 correct 1 incorrect 0 unknown 0 refused 0 signature 0 missing 0 extra 0
 === a quotient of equals is one, where the division is defined
@@ -87,7 +87,7 @@ define i8 @f(i8 %x) {
   ret i8 1
 }
 --- 0
-tv 1 turns 4 blocks 2 bytes 8 rounds 64 conflicts 0 weight 100000
+tv 2 turns 4 blocks 2 bytes 8 rounds 64 conflicts 0 weight 100000
 @f correct
 correct 1 incorrect 0 unknown 0 refused 0 signature 0 missing 0 extra 0
 === a division by zero is undefined behavior
@@ -102,7 +102,7 @@ define i8 @f(i8 %x) {
   ret i8 %r
 }
 --- 1
-tv 1 turns 4 blocks 2 bytes 8 rounds 64 conflicts 0 weight 100000
+tv 2 turns 4 blocks 2 bytes 8 rounds 64 conflicts 0 weight 100000
 @f incorrect
   arg 0 = 0
   source returns 1
@@ -121,7 +121,7 @@ define i8 @f(i8 %x) {
   ret i8 %r
 }
 --- 0
-tv 1 turns 4 blocks 2 bytes 8 rounds 64 conflicts 0 weight 100000
+tv 2 turns 4 blocks 2 bytes 8 rounds 64 conflicts 0 weight 100000
 @f correct
 correct 1 incorrect 0 unknown 0 refused 0 signature 0 missing 0 extra 0
 === the least number divided by -1 is undefined behavior
@@ -137,7 +137,7 @@ define i8 @f(i8 %x) {
   ret i8 %r
 }
 --- 1
-tv 1 turns 4 blocks 2 bytes 8 rounds 64 conflicts 0 weight 100000
+tv 2 turns 4 blocks 2 bytes 8 rounds 64 conflicts 0 weight 100000
 @f incorrect
   arg 0 = 128
   source returns 128
@@ -156,7 +156,7 @@ define i1 @f(i1 %a, i1 %b) {
   ret i1 %r
 }
 --- 0
-tv 1 turns 4 blocks 2 bytes 8 rounds 64 conflicts 0 weight 100000
+tv 2 turns 4 blocks 2 bytes 8 rounds 64 conflicts 0 weight 100000
 @f correct
 correct 1 incorrect 0 unknown 0 refused 0 signature 0 missing 0 extra 0
 === a select hides the poison of the arm that is not chosen
@@ -172,7 +172,7 @@ define i1 @f(i1 %a, i1 %b) {
   ret i1 %r
 }
 --- 1
-tv 1 turns 4 blocks 2 bytes 8 rounds 64 conflicts 0 weight 100000
+tv 2 turns 4 blocks 2 bytes 8 rounds 64 conflicts 0 weight 100000
 @f incorrect
   arg 0 = 0
   arg 1 = poison
@@ -192,7 +192,7 @@ define i1 @f(i8 %x) {
   ret i1 %c
 }
 --- 0
-tv 1 turns 4 blocks 2 bytes 8 rounds 64 conflicts 0 weight 100000
+tv 2 turns 4 blocks 2 bytes 8 rounds 64 conflicts 0 weight 100000
 @f correct
 correct 1 incorrect 0 unknown 0 refused 0 signature 0 missing 0 extra 0
 === the half itself is negative
@@ -208,7 +208,7 @@ define i1 @f(i8 %x) {
   ret i1 %c
 }
 --- 1
-tv 1 turns 4 blocks 2 bytes 8 rounds 64 conflicts 0 weight 100000
+tv 2 turns 4 blocks 2 bytes 8 rounds 64 conflicts 0 weight 100000
 @f incorrect
   arg 0 = 128
   source returns 1
@@ -227,7 +227,7 @@ define i8 @f(i8 %x) {
   ret i8 %r
 }
 --- 1
-tv 1 turns 4 blocks 2 bytes 8 rounds 64 conflicts 0 weight 100000
+tv 2 turns 4 blocks 2 bytes 8 rounds 64 conflicts 0 weight 100000
 @f incorrect
   arg 0 = 1
   source returns 0
@@ -258,7 +258,7 @@ define i1 @g(i64 %x, i64 %y) {
   ret i1 %r
 }
 --- 0
-tv 1 turns 4 blocks 2 bytes 8 rounds 64 conflicts 1 weight 100000
+tv 2 turns 4 blocks 2 bytes 8 rounds 64 conflicts 1 weight 100000
 @f correct
 @g correct
 correct 2 incorrect 0 unknown 0 refused 0 signature 0 missing 0 extra 0
@@ -277,7 +277,7 @@ define i32 @f(i1 %c, i32 %x) {
   ret i32 %r
 }
 --- 0
-tv 1 turns 4 blocks 2 bytes 8 rounds 64 conflicts 1 weight 100000
+tv 2 turns 4 blocks 2 bytes 8 rounds 64 conflicts 1 weight 100000
 @f correct
 correct 1 incorrect 0 unknown 0 refused 0 signature 0 missing 0 extra 0
 === exact may be dropped
@@ -293,7 +293,7 @@ define i8 @f(i8 %x) {
   ret i8 %r
 }
 --- 0
-tv 1 turns 4 blocks 2 bytes 8 rounds 64 conflicts 0 weight 100000
+tv 2 turns 4 blocks 2 bytes 8 rounds 64 conflicts 0 weight 100000
 @f correct
 correct 1 incorrect 0 unknown 0 refused 0 signature 0 missing 0 extra 0
 === a cut to fewer bits is poison under nuw where it loses a bit
@@ -309,7 +309,7 @@ define i4 @f(i8 %x) {
   ret i4 %r
 }
 --- 1
-tv 1 turns 4 blocks 2 bytes 8 rounds 64 conflicts 0 weight 100000
+tv 2 turns 4 blocks 2 bytes 8 rounds 64 conflicts 0 weight 100000
 @f incorrect
   arg 0 = 16
   source returns 0
@@ -326,7 +326,7 @@ define i64 @f() {
   ret i64 9223372036854775808
 }
 --- 0
-tv 1 turns 4 blocks 2 bytes 8 rounds 64 conflicts 0 weight 100000
+tv 2 turns 4 blocks 2 bytes 8 rounds 64 conflicts 0 weight 100000
 @f correct
 correct 1 incorrect 0 unknown 0 refused 0 signature 0 missing 0 extra 0
 === all ones are written without a sign too
@@ -340,7 +340,7 @@ define i64 @f() {
   ret i64 18446744073709551615
 }
 --- 0
-tv 1 turns 4 blocks 2 bytes 8 rounds 64 conflicts 0 weight 100000
+tv 2 turns 4 blocks 2 bytes 8 rounds 64 conflicts 0 weight 100000
 @f correct
 correct 1 incorrect 0 unknown 0 refused 0 signature 0 missing 0 extra 0
 === a shift is a sum, in the lines that a compiler prints
@@ -362,7 +362,7 @@ attributes #0 = { nounwind }
 !4 = distinct !{}
 !9 = !{}
 --- 0
-tv 1 turns 4 blocks 2 bytes 8 rounds 64 conflicts 0 weight 100000
+tv 2 turns 4 blocks 2 bytes 8 rounds 64 conflicts 0 weight 100000
 @f correct
 correct 1 incorrect 0 unknown 0 refused 0 signature 0 missing 0 extra 0
 === a sum is a shift, in the lines that a compiler prints
@@ -384,7 +384,7 @@ attributes #0 = { nounwind }
 !4 = distinct !{}
 !9 = !{}
 --- 0
-tv 1 turns 4 blocks 2 bytes 8 rounds 64 conflicts 0 weight 100000
+tv 2 turns 4 blocks 2 bytes 8 rounds 64 conflicts 0 weight 100000
 @f correct
 correct 1 incorrect 0 unknown 0 refused 0 signature 0 missing 0 extra 0
 ";

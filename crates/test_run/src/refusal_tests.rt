@@ -120,7 +120,7 @@ define i8 @f(i8 %x) {
   ret i8 %r
 }
 --- 3
-tv 1 turns 4 blocks 2 bytes 8 rounds 64 conflicts 0 weight 100000
+tv 2 turns 4 blocks 2 bytes 8 rounds 64 conflicts 0 weight 100000
 @f refused source Unsupported 2:8
 correct 0 incorrect 0 unknown 0 refused 1 signature 0 missing 0 extra 0
 === the source is refused alone
@@ -135,7 +135,7 @@ define i8 @f(i8 %x) {
   ret i8 %x
 }
 --- 3
-tv 1 turns 4 blocks 2 bytes 8 rounds 64 conflicts 0 weight 100000
+tv 2 turns 4 blocks 2 bytes 8 rounds 64 conflicts 0 weight 100000
 @f refused source Unsupported 2:8
 correct 0 incorrect 0 unknown 0 refused 1 signature 0 missing 0 extra 0
 === the target is refused alone
@@ -150,7 +150,7 @@ define i8 @f(i8 %x) {
   ret i8 %r
 }
 --- 3
-tv 1 turns 4 blocks 2 bytes 8 rounds 64 conflicts 0 weight 100000
+tv 2 turns 4 blocks 2 bytes 8 rounds 64 conflicts 0 weight 100000
 @f refused target Unsupported 2:8
 correct 0 incorrect 0 unknown 0 refused 1 signature 0 missing 0 extra 0
 === an integer is too wide
@@ -164,7 +164,7 @@ define i65 @f(i65 %x) {
   ret i65 %x
 }
 --- 3
-tv 1 turns 4 blocks 2 bytes 8 rounds 64 conflicts 0 weight 100000
+tv 2 turns 4 blocks 2 bytes 8 rounds 64 conflicts 0 weight 100000
 @f refused source Limit 1:8
 correct 0 incorrect 0 unknown 0 refused 1 signature 0 missing 0 extra 0
 === a number is too wide for 64 bits
@@ -178,7 +178,7 @@ define i64 @f() {
   ret i64 0
 }
 --- 3
-tv 1 turns 4 blocks 2 bytes 8 rounds 64 conflicts 0 weight 100000
+tv 2 turns 4 blocks 2 bytes 8 rounds 64 conflicts 0 weight 100000
 @f refused source Limit 2:11
 correct 0 incorrect 0 unknown 0 refused 1 signature 0 missing 0 extra 0
 === a name is defined twice
@@ -194,7 +194,7 @@ define i8 @f(i8 %x) {
   ret i8 %x
 }
 --- 3
-tv 1 turns 4 blocks 2 bytes 8 rounds 64 conflicts 0 weight 100000
+tv 2 turns 4 blocks 2 bytes 8 rounds 64 conflicts 0 weight 100000
 @f refused source NameTwice 2:3
 correct 0 incorrect 0 unknown 0 refused 1 signature 0 missing 0 extra 0
 === a name is not defined
@@ -208,7 +208,7 @@ define i8 @f(i8 %x) {
   ret i8 %y
 }
 --- 3
-tv 1 turns 4 blocks 2 bytes 8 rounds 64 conflicts 0 weight 100000
+tv 2 turns 4 blocks 2 bytes 8 rounds 64 conflicts 0 weight 100000
 @f refused source NameUnknown 2:10
 correct 0 incorrect 0 unknown 0 refused 1 signature 0 missing 0 extra 0
 === a type does not fit
@@ -222,7 +222,7 @@ define i8 @f(i1 %x) {
   ret i8 %x
 }
 --- 3
-tv 1 turns 4 blocks 2 bytes 8 rounds 64 conflicts 0 weight 100000
+tv 2 turns 4 blocks 2 bytes 8 rounds 64 conflicts 0 weight 100000
 @f refused source TypeClash 2:10
 correct 0 incorrect 0 unknown 0 refused 1 signature 0 missing 0 extra 0
 === a name is used before it is assigned
@@ -240,7 +240,7 @@ define i8 @f() {
   ret i8 %y
 }
 --- 3
-tv 1 turns 4 blocks 2 bytes 8 rounds 64 conflicts 0 weight 100000
+tv 2 turns 4 blocks 2 bytes 8 rounds 64 conflicts 0 weight 100000
 @f refused source Unassigned 2:15
 correct 0 incorrect 0 unknown 0 refused 1 signature 0 missing 0 extra 0
 === a name is not assigned on every path
@@ -266,7 +266,7 @@ define i8 @g(i8 %x) {
   ret i8 %x
 }
 --- 3
-tv 1 turns 4 blocks 2 bytes 8 rounds 64 conflicts 0 weight 100000
+tv 2 turns 4 blocks 2 bytes 8 rounds 64 conflicts 0 weight 100000
 @f refused source Unassigned 8:10
 @g correct
 correct 1 incorrect 0 unknown 0 refused 1 signature 0 missing 0 extra 0
@@ -289,7 +289,7 @@ define i8 @h(i8 %x) {
   ret i8 %x
 }
 --- 3
-tv 1 turns 4 blocks 2 bytes 8 rounds 64 conflicts 0 weight 100000
+tv 2 turns 4 blocks 2 bytes 8 rounds 64 conflicts 0 weight 100000
 @f refused source Unsupported 2:8
 @h correct
 correct 1 incorrect 0 unknown 0 refused 1 signature 0 missing 0 extra 0
@@ -302,7 +302,7 @@ define i8 @f(i8 %x) {
 }
 --- B
 --- 3
-tv 1 turns 4 blocks 2 bytes 8 rounds 64 conflicts 0 weight 100000
+tv 2 turns 4 blocks 2 bytes 8 rounds 64 conflicts 0 weight 100000
 @f missing
 correct 0 incorrect 0 unknown 0 refused 0 signature 0 missing 1 extra 0
 === a refused target without a partner is extra
@@ -314,7 +314,7 @@ define i8 @f(i8 %x) {
   ret i8 %r
 }
 --- 3
-tv 1 turns 4 blocks 2 bytes 8 rounds 64 conflicts 0 weight 100000
+tv 2 turns 4 blocks 2 bytes 8 rounds 64 conflicts 0 weight 100000
 @f extra
 correct 0 incorrect 0 unknown 0 refused 0 signature 0 missing 0 extra 1
 === there are no arguments

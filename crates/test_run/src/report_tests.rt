@@ -20,7 +20,7 @@ const BUDGET: Budget = Budget {
     weight: 100_000,
 };
 
-const TEXT: &str = "tv 1 turns 4 blocks 2 bytes 8 rounds 64 conflicts 0 weight 100000
+const TEXT: &str = "tv 2 turns 4 blocks 2 bytes 8 rounds 64 conflicts 0 weight 100000
 @f correct
 @\"g h\" missing
 correct 1 incorrect 0 unknown 0 refused 0 signature 0 missing 1 extra 0

@@ -308,7 +308,7 @@ entry:
   returns poison
 difference: the target returns poison, and the source another value
 --- R
-tv 1 turns 4 blocks 2 bytes 8 rounds 64 conflicts 0 weight 100000
+tv 2 turns 4 blocks 2 bytes 8 rounds 64 conflicts 0 weight 100000
 @e correct
 @f incorrect
   arg 0 = 28
@@ -348,7 +348,7 @@ entry:
   returns poison
 difference: the target returns poison, and the source another value
 --- R
-tv 1 turns 4 blocks 2 bytes 8 rounds 64 conflicts 0 weight 100000
+tv 2 turns 4 blocks 2 bytes 8 rounds 64 conflicts 0 weight 100000
 @e correct
 @f incorrect
   arg 0 = 29
@@ -388,7 +388,7 @@ entry:
   returns poison
 difference: the target returns poison, and the source another value
 --- R
-tv 1 turns 4 blocks 2 bytes 8 rounds 64 conflicts 0 weight 100000
+tv 2 turns 4 blocks 2 bytes 8 rounds 64 conflicts 0 weight 100000
 @e correct
 @f incorrect
   arg 0 = 29
@@ -428,7 +428,7 @@ entry:
   returns poison
 difference: the target returns poison, and the source another value
 --- R
-tv 1 turns 4 blocks 2 bytes 8 rounds 64 conflicts 0 weight 100000
+tv 2 turns 4 blocks 2 bytes 8 rounds 64 conflicts 0 weight 100000
 @e correct
 @f incorrect
   arg 0 = 29
@@ -469,7 +469,7 @@ entry:
   returns poison
 difference: the target returns poison, and the source another value
 --- R
-tv 1 turns 4 blocks 2 bytes 8 rounds 64 conflicts 0 weight 100000
+tv 2 turns 4 blocks 2 bytes 8 rounds 64 conflicts 0 weight 100000
 @e correct
 @f incorrect
   arg 0 = 1
@@ -509,7 +509,7 @@ entry:
   returns poison
 difference: the target returns poison, and the source another value
 --- R
-tv 1 turns 4 blocks 2 bytes 8 rounds 64 conflicts 0 weight 100000
+tv 2 turns 4 blocks 2 bytes 8 rounds 64 conflicts 0 weight 100000
 @e correct
 @f incorrect
   arg 0 = 285
@@ -586,7 +586,7 @@ entry:
   returns poison
 difference: the target returns poison, and the source another value
 --- R
-tv 1 turns 4 blocks 2 bytes 8 rounds 64 conflicts 0 weight 100000
+tv 2 turns 4 blocks 2 bytes 8 rounds 64 conflicts 0 weight 100000
 @e correct
 @f correct
 correct 1 incorrect 1 unknown 0 refused 0 signature 0 missing 0 extra 0

@@ -17,7 +17,7 @@ define i64 @f(i64 %x) {
   ret i64 %r
 }
 --- 0
-tv 1 turns 4 blocks 2 bytes 8 rounds 64 conflicts 0 weight 100000
+tv 2 turns 4 blocks 2 bytes 8 rounds 64 conflicts 0 weight 100000
 @f correct
 correct 1 incorrect 0 unknown 0 refused 0 signature 0 missing 0 extra 0
 === a shift is a product by two
@@ -33,7 +33,7 @@ define i64 @f(i64 %x) {
   ret i64 %r
 }
 --- 0
-tv 1 turns 4 blocks 2 bytes 8 rounds 64 conflicts 0 weight 100000
+tv 2 turns 4 blocks 2 bytes 8 rounds 64 conflicts 0 weight 100000
 @f correct
 correct 1 incorrect 0 unknown 0 refused 0 signature 0 missing 0 extra 0
 === constants need no learned clause
@@ -47,7 +47,7 @@ define i8 @f() {
   ret i8 7
 }
 --- 0
-tv 1 turns 4 blocks 0 bytes 8 rounds 64 conflicts 1 weight 100000
+tv 2 turns 4 blocks 0 bytes 8 rounds 64 conflicts 1 weight 100000
 @f correct
 correct 1 incorrect 0 unknown 0 refused 0 signature 0 missing 0 extra 0
 === nor do constants that differ
@@ -61,7 +61,7 @@ define i8 @f() {
   ret i8 8
 }
 --- 1
-tv 1 turns 4 blocks 0 bytes 8 rounds 64 conflicts 1 weight 100000
+tv 2 turns 4 blocks 0 bytes 8 rounds 64 conflicts 1 weight 100000
 @f incorrect
   source returns 7
   target returns 8
@@ -77,7 +77,7 @@ define i64 @f(i64 %x) {
   ret i64 %x
 }
 --- 0
-tv 1 turns 4 blocks 0 bytes 8 rounds 64 conflicts 100000 weight 100000
+tv 2 turns 4 blocks 0 bytes 8 rounds 64 conflicts 100000 weight 100000
 @f correct
 correct 1 incorrect 0 unknown 0 refused 0 signature 0 missing 0 extra 0
 ";

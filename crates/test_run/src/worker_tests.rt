@@ -23,16 +23,16 @@ const FOUR_FUNCTIONS: &str = "define i8 @a() {\n  ret i8 7\n}\n\
      define i8 @c() {\n  ret i8 7\n}\n\
      define i8 @d() {\n  ret i8 7\n}\n";
 
-const NO_ROWS: &str = "tv 1 turns 4 blocks 2 bytes 8 rounds 64 conflicts 0 weight 100000
+const NO_ROWS: &str = "tv 2 turns 4 blocks 2 bytes 8 rounds 64 conflicts 0 weight 100000
 correct 0 incorrect 0 unknown 0 refused 0 signature 0 missing 0 extra 0
 ";
 
-const ONE_ROW: &str = "tv 1 turns 4 blocks 2 bytes 8 rounds 64 conflicts 0 weight 100000
+const ONE_ROW: &str = "tv 2 turns 4 blocks 2 bytes 8 rounds 64 conflicts 0 weight 100000
 @f correct
 correct 1 incorrect 0 unknown 0 refused 0 signature 0 missing 0 extra 0
 ";
 
-const SECOND_WRONG: &str = "tv 1 turns 4 blocks 2 bytes 8 rounds 64 conflicts 0 weight 100000
+const SECOND_WRONG: &str = "tv 2 turns 4 blocks 2 bytes 8 rounds 64 conflicts 0 weight 100000
 @f correct
 @g incorrect
   source returns 7

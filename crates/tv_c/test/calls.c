@@ -17,11 +17,11 @@ static const char OTHER[] = "define i8 @f(i8 %x) {\n  ret i8 0\n}\n";
 static const char NONE[] = "define i8 @f(i8 %x) {\n";
 
 static const char CORRECT[] =
-    "tv 1 turns 4 blocks 2 bytes 8 rounds 64 conflicts 0 weight 100000\n"
+    "tv 2 turns 4 blocks 2 bytes 8 rounds 64 conflicts 0 weight 100000\n"
     "@f correct\n"
     "correct 1 incorrect 0 unknown 0 refused 0 signature 0 missing 0 extra 0\n";
 static const char INCORRECT[] =
-    "tv 1 turns 4 blocks 2 bytes 8 rounds 64 conflicts 0 weight 100000\n"
+    "tv 2 turns 4 blocks 2 bytes 8 rounds 64 conflicts 0 weight 100000\n"
     "@f incorrect\n"
     "  arg 0 = 1\n"
     "  source returns 1\n"
@@ -105,9 +105,9 @@ int main(void) {
     char small[8] = "........";
     size_t length = 0;
     CHECK(12, tv_check_into(SAME, strlen(SAME), SAME, strlen(SAME), &USUAL, small, 4, &length) == TV_CORRECT);
-    CHECK(13, length == strlen(CORRECT) && memcmp(small, "tv 1....", 8) == 0);
+    CHECK(13, length == strlen(CORRECT) && memcmp(small, "tv 2....", 8) == 0);
     CHECK(14, tv_check_into(SAME, strlen(SAME), SAME, strlen(SAME), &USUAL, small, 0, &length) == TV_CORRECT);
-    CHECK(15, length == strlen(CORRECT) && memcmp(small, "tv 1....", 8) == 0);
+    CHECK(15, length == strlen(CORRECT) && memcmp(small, "tv 2....", 8) == 0);
 
     /* a text that is too long */
     size_t many = 16777217;

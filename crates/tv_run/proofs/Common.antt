@@ -1,5 +1,5 @@
 -- What proofs of this crate cite of std, of other crates and of its definitions, passed on from one place. Declares nothing.
-pub use Rattle.std.proofs.Common.{◌≡◌, ◌≤◌, ◌⊎◌, ◌+◌, ◌||◌, ℕ, zero, suc, arith, Bool, true, false, true≢false, cond, List, [], ◌∷◌, Option, Some, None, Result, Ok, Err, refl, sym, ap, subst, ◌∙◌, inl, inr, is_some, if◌then◌else◌, ◌++◌, ◌&&◌, ◌-◌, eqb, ltb, All, length, drop, take, slice_get, ◌≢◌, ◌<◌, ◌/◌, ◌%◌, not, codes, map, append_assoc, append-nil, nat_lt, ◌==◌, Contains, ap₂, ⊎_elim, ◌^◌, ◌*◌, get_or, eq-eqb, is_none, option_map, vec_len, rules}
+pub use Rattle.std.proofs.Common.{◌≡◌, ◌≤◌, ◌⊎◌, ◌+◌, ◌||◌, ℕ, zero, suc, arith, Bool, true, false, true≢false, cond, List, [], ◌∷◌, Option, Some, None, Result, Ok, Err, refl, sym, ap, subst, ◌∙◌, inl, inr, is_some, if◌then◌else◌, ◌++◌, ◌&&◌, ◌-◌, eqb, ltb, All, length, drop, take, slice_get, ◌≢◌, ◌<◌, ◌/◌, ◌%◌, not, codes, map, append_assoc, append-nil, nat_eq, nat_lt, ◌==◌, Contains, ap₂, ⊎_elim, ◌^◌, ◌*◌, get_or, eq-eqb, is_none, option_map, vec_len, rules}
 pub use Rattle.std.proofs.lemmas.Bool.{ltb-false, cases_Bool, eqb-false, and_parts}
 pub use Rattle.std.proofs.lemmas.Bool.Decides.{nat_tests}
 pub use Rattle.std.proofs.lemmas.Grind.{flat_map-append, common_steps}
@@ -39,7 +39,7 @@ pub use Rattle.proof_text.specs.declared.part.Proof.{Proof}
 pub use Rattle.report.specs.Rows.{function_named, IsJudged, IsCompared, IsFinding, IsRow, ends, GoesOn, AreSourceRows, AreRows, extra_row, extra_rows, RowsAreOne, first_rows, FirstRowsAreTheFirst}
 pub use Rattle.report.proofs.Ended.{after_row, goes_weaker, rows_whole, whole_is}
 pub use Rattle.report.specs.Status.{has_some, is_of_class, status_of, count}
-pub use Rattle.report.specs.Text.{bounds_text, budget_text, cause_text, counted, finding_text, first_line, first_word, judged_counts, last_line, newline, other_counts, reason_text, refused_text, report_text, row_text, shown_lines, side_text, address_text, arg_lines, block_line, block_lines, byte_text, bytes_line, choice_lines, contents_line, numbered_line, outcome_lines, point_lines, pointer_text, returned_text, sentence, spaced_byte, value_text, summary_text}
+pub use Rattle.report.specs.Text.{bounds_text, budget_text, cause_text, counted, finding_text, first_line, first_word, judged_counts, last_line, newline, other_counts, reason_text, refused_text, report_text, row_text, shown_lines, side_text, address_text, arg_lines, bits_text, block_line, block_lines, byte_text, bytes_line, choice_lines, contents_line, numbered_line, outcome_lines, point_lines, pointer_text, returned_text, sentence, spaced_byte, value_text, summary_text}
 pub use Rattle.report.specs.declared.row.Finding.{Finding}
 pub use Rattle.report.specs.declared.row.Row.{Row}
 pub use Rattle.report.specs.declared.row.Side.{Side}

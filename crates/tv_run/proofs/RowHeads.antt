@@ -153,8 +153,8 @@ free_counted label n free = without_append 10 label (decimal n) free (free_decim
 module _ (bounds : Bounds) (budget : Budget) where
   free_bounds : Free (bounds_text bounds)
   free_bounds =
-      without_append 10 (counted (codes "tv 1 turns ") bounds.turns ++ counted (codes " blocks ") bounds.blocks) (counted (codes " bytes ") bounds.bytes)
-      (without_append 10 (counted (codes "tv 1 turns ") bounds.turns) (counted (codes " blocks ") bounds.blocks) (free_counted (codes "tv 1 turns ") bounds.turns (free_known (codes "tv 1 turns ") refl)) (free_counted (codes " blocks ") bounds.blocks (free_known (codes " blocks ") refl)))
+      without_append 10 (counted (codes "tv 2 turns ") bounds.turns ++ counted (codes " blocks ") bounds.blocks) (counted (codes " bytes ") bounds.bytes)
+      (without_append 10 (counted (codes "tv 2 turns ") bounds.turns) (counted (codes " blocks ") bounds.blocks) (free_counted (codes "tv 2 turns ") bounds.turns (free_known (codes "tv 2 turns ") refl)) (free_counted (codes " blocks ") bounds.blocks (free_known (codes " blocks ") refl)))
       (free_counted (codes " bytes ") bounds.bytes (free_known (codes " bytes ") refl))
 
   free_budget : Free (budget_text budget)

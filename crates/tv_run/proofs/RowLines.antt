@@ -1,5 +1,5 @@
 -- The text of a report as lines, of which those that begin with `@` are the first lines of its rows.
-use Rattle.tv_run.proofs.Common.{ℕ, zero, suc, ◌≡◌, ◌≢◌, ◌<◌, ◌≤◌, ◌+◌, ◌-◌, ◌/◌, ◌%◌, ◌||◌, ◌==◌, eqb, arith, Bool, true, false, cond, Contains, List, [], ◌∷◌, ◌++◌, codes, take, append-nil, Option, Some, None, refl, sym, ap, ap₂, ◌∙◌, ⊎_elim, nat_lt, if◌then◌else◌, filter, decimal, digits, digit_glyph, digits_onto, flat_map, list_any, nat_tests, All-append, All-cons, All-nil, Contains-append_cases, flat_map-append, filter-append, hex_digit, is_digit, Point, Shown, address_text, arg_lines, block_line, block_lines, byte_text, bytes_line, choice_lines, contents_line, newline, numbered_line, outcome_lines, point_lines, pointer_text, returned_text, sentence, shown_lines, spaced_byte, value_text, ended, first_or_later, AreFree, Free}
+use Rattle.tv_run.proofs.Common.{ℕ, zero, suc, ◌≡◌, ◌≢◌, ◌<◌, ◌≤◌, ◌+◌, ◌-◌, ◌/◌, ◌%◌, ◌||◌, ◌==◌, eqb, arith, Bool, true, false, cond, cases_Bool, inl, inr, Contains, List, [], ◌∷◌, ◌++◌, codes, take, append-nil, Option, Some, None, refl, sym, ap, ap₂, ◌∙◌, ⊎_elim, nat_eq, nat_lt, if◌then◌else◌, filter, decimal, digits, digit_glyph, digits_onto, flat_map, list_any, nat_tests, All-append, All-cons, All-nil, Contains-append_cases, flat_map-append, filter-append, hex_byte, hex_digit, is_digit, Point, Shown, address_text, arg_lines, bits_text, block_line, block_lines, byte_text, bytes_line, choice_lines, contents_line, newline, numbered_line, outcome_lines, point_lines, pointer_text, returned_text, sentence, shown_lines, spaced_byte, value_text, ended, first_or_later, AreFree, Free}
 use Rattle.byte_block.specs.declared.value.BlockName.{BlockName}
 use Rattle.byte_block.specs.declared.value.BlockName.TheVariants.{Null, Given, Local}
 use Rattle.byte_block.specs.declared.value.Ptr.{Ptr}
@@ -126,13 +126,25 @@ free_value (value.Num n) = free_decimal n
 free_value value.Poison = free_known (codes "poison") refl
 free_value (value.Ptr p) = free_address p.block p.offset
 
-free_byte : (b : Byte) → Free (byte_text b)
-free_byte (byte.Num n) =
+free_hex : (n : ℕ) → Free (hex_byte 97 n)
+free_hex n =
     without_cons 10 (hex_digit 97 (n / 16)) (hex_digit 97 (n % 16) ∷ []) (hex_other 10 97 (n / 16) (omega arith) (omega arith))
     (without_cons 10 (hex_digit 97 (n % 16)) [] (hex_other 10 97 (n % 16) (omega arith) (omega arith)) (without_nil 10))
+
+free_bits : (number mask : ℕ) → Free (bits_text number mask)
+free_bits number mask = elim (cases_Bool (nat_eq mask 0)) [
+  | inl none ↦ rw none (free_hex number)
+  | inr some ↦ elim (cases_Bool (nat_eq mask 255)) [
+    | inl all ↦ rw (some, all) (free_known (codes "--") refl)
+    | inr few ↦ rw (some, few)
+        (without_append 10 (hex_byte 97 number ++ codes "~") (hex_byte 97 mask) (without_append 10 (hex_byte 97 number) (codes "~") (free_hex number) (free_known (codes "~") refl)) (free_hex mask))
+  ]
+]
+
+free_byte : (b : Byte) → Free (byte_text b)
+free_byte (byte.Bits number mask) = free_bits number mask
 free_byte (byte.Part p place) =
     without_append 10 (pointer_text p ++ codes "/") (decimal place) (without_append 10 (pointer_text p) (codes "/") (free_address p.block p.offset) (free_known (codes "/") refl)) (free_decimal place)
-free_byte byte.Poison = free_known (codes "--") refl
 
 free_bytes : (bytes : List Byte) → Free (flat_map spaced_byte bytes)
 free_bytes [] = without_nil 10
