@@ -14,7 +14,7 @@ pub use Rattle.bv_terms.specs.declared.term.TermId.{TermId}
 pub use Rattle.byte_block.specs.declared.block.MemoryBlock.{MemoryBlock}
 pub use Rattle.byte_block.specs.declared.value.BlockName.{BlockName}
 pub use Rattle.byte_block.specs.declared.value.Byte.{Byte}
-pub use Rattle.byte_block.specs.declared.value.Byte.TheVariants.{Poison}
+pub use Rattle.byte_block.specs.declared.value.Byte.TheVariants.{Bits}
 pub use Rattle.byte_block.specs.declared.value.Value.{Value}
 pub use Rattle.byte_terms.proofs.Naming.{never_true, named_stands}
 pub use Rattle.mem_terms.proofs.Bits.{term-below}

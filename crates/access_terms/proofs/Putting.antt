@@ -1,5 +1,5 @@
 -- Bytes that replace others, one by one and where the offset is one of several.
-use Rattle.access_terms.proofs.Common.{ℕ, zero, suc, ◌≡◌, ◌<◌, ◌≤◌, ◌+◌, ◌-◌, ◌%◌, Bool, true, false, cond, ◌&&◌, nat_eq, nat_lt, List, [], ◌∷◌, ◌++◌, length, map, take, drop, get_or, refl, ap, sym, ◌∙◌, inl, inr, arith, paste, cases_eq, eq-eqb, le-ltb, lt-ltb, ne_eqb, nat_tests, append-nil, drop_all, drop-map, length-drop, length-take, set-get_or, take-map, Byte, Poison, TermId, Term, IsTerm, Keeps, Tests, bit_at, term_at, SymByte, Each, Reading, AreSymBytes, IsSymByte, byte_at, places_at, each-at, map-at, map-length, map-set, bit-later, byte-later, places-later, term-later, written}
+use Rattle.access_terms.proofs.Common.{ℕ, zero, suc, ◌≡◌, ◌<◌, ◌≤◌, ◌+◌, ◌-◌, ◌%◌, Bool, true, false, cond, ◌&&◌, nat_eq, nat_lt, List, [], ◌∷◌, ◌++◌, length, map, take, drop, get_or, refl, ap, sym, ◌∙◌, inl, inr, arith, paste, cases_eq, eq-eqb, le-ltb, lt-ltb, ne_eqb, nat_tests, append-nil, drop_all, drop-map, length-drop, length-take, set-get_or, take-map, Byte, Bits, TermId, Term, IsTerm, Keeps, Tests, bit_at, term_at, SymByte, Each, Reading, AreSymBytes, IsSymByte, byte_at, places_at, each-at, map-at, map-length, map-set, bit-later, byte-later, places-later, term-later, written}
 use Rattle.std.specs.Prelude.{slice_set}
 use Rattle.std.proofs.Math.ListN.{set}
 use Rattle.std.proofs.lemmas.List.Edits.{paste_more, paste_all}
@@ -32,11 +32,11 @@ put_more old a b c bytes places now from i byte before picked hc hbytes room cou
     let value : byte_at r b picked ≡ cond (bit_at r.v old c) (byte_at r old byte) (byte_at r a before) = rw (← bit-later old a ka r.v c hc.within, ← byte-later old a ka r byte item) (stands r) in
     let long = map-length (byte_at r old) places in
     let short = map-length (byte_at r old) bytes in
-    let byte_is = map-at (byte_at r old) bytes i byte Poison within is in
-    let before_is = map-at (byte_at r a) now (from + i) before Poison (omega (arith, room, count, within)) was in
+    let byte_is = map-at (byte_at r old) bytes i byte (Bits 0 0) within is in
+    let before_is = map-at (byte_at r a) now (from + i) before (Bits 0 0) (omega (arith, room, count, within)) was in
     map-set (byte_at r b) now (from + i) picked
     ∙ rw (places-later a b kb r now hnow, value, so r)
-    (put-one (bit_at r.v old c) (places_at r old places) (places_at r old bytes) from i (byte_at r old byte) (byte_at r a before) Poison
+    (put-one (bit_at r.v old c) (places_at r old places) (places_at r old bytes) from i (byte_at r old byte) (byte_at r a before) (Bits 0 0)
     (omega (arith, room, long, within)) (omega (arith, short, within)) byte_is (rw (← so r) before_is))
 
 -- all are put

@@ -25,10 +25,11 @@ pub enum Value {
     Ptr(Ptr),
 }
 
-/// A byte of memory: a number, poison, or the part of a pointer with this index from 0 to 7.
+/// A byte of memory: bits, or the part of a pointer with this index from 0 to 7. A bit of the mask
+/// is poison, and is 0 in the number (LLVM Language Reference, "Poison Values"; Alive2's memory
+/// model, CAV 2021, keeps a mask of such bits in each byte too).
 #[derive(Clone, Copy, Debug, PartialEq, Eq)]
 pub enum Byte {
-    Num(u8),
+    Bits { number: u8, mask: u8 },
     Part(Ptr, u8),
-    Poison,
 }

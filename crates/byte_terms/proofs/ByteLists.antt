@@ -1,5 +1,5 @@
 -- Lists of bytes made of parts.
-use Rattle.byte_terms.proofs.Common.{ℕ, zero, suc, ◌≡◌, ◌<◌, ◌≤◌, ◌+◌, Bool, true, false, cond, List, [], ◌∷◌, ◌++◌, length, take, get_or, map, replicate, refl, ap, sym, subst, ◌∙◌, arith, add-one, length-append, Byte, TermId, Term, Keeps, IsTerm, bit_at, SymByte, Each, Reading, AreSymBytes, IsSymByte, byte_at, places_at, each-at, each-push, map-at, map-length, map-push, keeps_trans, bit-later, byte-later, places-later, sym_bytes-later}
+use Rattle.byte_terms.proofs.Common.{ℕ, zero, suc, ◌≡◌, ◌<◌, ◌≤◌, ◌+◌, Bool, true, false, cond, List, [], ◌∷◌, ◌++◌, length, take, get_or, map, replicate, Some, slice_get, refl, ap, sym, subst, ◌∙◌, arith, add-one, length-append, Byte, TermId, Term, Keeps, IsTerm, bit_at, SymByte, Each, Reading, AreSymBytes, IsSymByte, byte_at, places_at, each-at, each-push, map-at, map-length, map-push, keeps_trans, bit-later, byte-later, places-later, sym_bytes-later}
 
 pub map-replicate : {A B : Type 0} (f : A → B) (n : ℕ) (x : A) → map f (replicate n x) ≡ replicate n (f x)
 map-replicate f zero x = refl
@@ -12,6 +12,11 @@ each-replicate P (suc n) x h = (h, each-replicate P n x h)
 pub length-replicate : {A : Type 0} (n : ℕ) (x : A) → length (replicate n x) ≡ n
 length-replicate zero x = refl
 length-replicate (suc n) x = ap suc (length-replicate n x)
+
+pub replicate-get : {A : Type 0} (n : ℕ) (x : A) (k : ℕ) → k < n → slice_get (replicate n x) k ≡ Some x
+replicate-get zero x k within = absurd (omega arith)
+replicate-get (suc n) x zero within = refl
+replicate-get (suc n) x (suc k) within = replicate-get n x k (omega arith)
 
 -- ---- one of two lists, byte by byte
 

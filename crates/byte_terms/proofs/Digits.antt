@@ -1,82 +1,96 @@
 -- Numbers as bytes, and bytes as numbers.
-use Rattle.byte_terms.proofs.Common.{ℕ, zero, suc, ◌≡◌, ◌<◌, ◌≤◌, ◌+◌, ◌-◌, ◌*◌, ◌/◌, ◌%◌, ◌^◌, Bool, true, false, cond, not, ◌&&◌, ◌||◌, nat_eq, nat_lt, List, [], ◌∷◌, ◌++◌, length, take, drop, replicate, get_or, Option, Some, None, refl, ap, sym, subst, ◌∙◌, inl, inr, arith, eqb-true, slice_get, is_some, option_map, cases_Bool, eq-eqb, lt-ltb, ltb-true, ne_eqb, at_drop_all, at_drop_more, replicate_more, take_all, take_more, BlockName, Ptr, Byte, Num, Poison, Int, number_bytes, number_of_bytes, number_or_poison, value_bytes, value_of_bytes, number_bytes-get, TermId, Term, width_of, AreInRange, IsTerm, Keeps, Makes, Tests, bit_at, term_at, tree_in, SymByte, SymValue, IsSymValue, Reading, number_at, value_at, value_from, value_of, AreSymBytes, IsSymByte, byte_at, byte_of, places_at, each-at, map-push, bit-later, keeps_trans, places-later, term-later, same_Some}
+use Rattle.byte_terms.proofs.Common.{ℕ, zero, suc, ◌≡◌, ◌<◌, ◌≤◌, ◌+◌, ◌-◌, ◌*◌, ◌/◌, ◌%◌, ◌^◌, Bool, true, false, cond, not, ◌&&◌, ◌||◌, nat_eq, nat_lt, min, List, [], ◌∷◌, ◌++◌, length, take, drop, get_or, Option, Some, None, refl, ap, ap₂, sym, subst, ◌∙◌, inl, inr, arith, eqb-true, slice_get, is_some, option_map, cases_Bool, eq-eqb, lt-ltb, ltb-true, at_drop_all, at_drop_more, take_all, take_more, BlockName, Ptr, Byte, Bits, Int, defined_bits, number_bytes, number_of_bytes, number_or_poison, poison_bytes, value_bytes, value_of_bytes, number_bytes-get, poison_bytes-get, defined-all, defined-zero, defined-none, TermId, Term, width_of, AreInRange, IsTerm, Keeps, Makes, Tests, bit_at, term_at, tree_in, SymByte, SymValue, IsSymValue, Reading, number_at, value_at, value_from, value_of, AreSymBytes, IsSymByte, byte_at, byte_of, places_at, each-at, map-push, bit-later, keeps_trans, places-later, term-later, same_Some}
 use Rattle.std.proofs.lemmas.Nat.{pow-add, pow_pos}
 use Rattle.std.proofs.lemmas.Option.{get_or_from_slice_get, slice_get_within}
+use Rattle.std.proofs.Math.Dec.{eqb-suc-zero}
 use Rattle.std.proofs.Math.Nat.{div-lt_iff_lt-mul, mul_assoc, mul-add, mul_comm}
 use Rattle.tv_num.specs.declared.Width.{Width}
 use Rattle.mem_terms.proofs.Bits.{term-below}
 use Rattle.mem_terms.proofs.Made.{small_mod}
 use Rattle.byte_terms.proofs.Bools.{and-thrice, and-yes, both_ways}
 
--- ---- one list where a condition is true, and the same number of poison bytes where it is not
+-- ---- one of two lists
 
-pub front_more : (c : Bool) (bytes : List Byte) (i : ℕ) (x : Byte) → slice_get bytes i ≡ Some x
-    → cond c (take i bytes) (replicate i Poison) ++ cond c x Poison ∷ [] ≡ cond c (take (i + 1) bytes) (replicate (i + 1) Poison)
-front_more true bytes i x is = ap (λ y. take i bytes ++ y ∷ []) (sym (get_or_from_slice_get bytes i x Poison is)) ∙ sym (take_more bytes i Poison (slice_get_within bytes i x is))
-front_more false bytes i x is = replicate_more i Poison
+pub front_more : (c : Bool) (xs ys : List Byte) (i : ℕ) (x y : Byte) → slice_get xs i ≡ Some x → slice_get ys i ≡ Some y
+    → cond c (take i xs) (take i ys) ++ cond c x y ∷ [] ≡ cond c (take (i + 1) xs) (take (i + 1) ys)
+front_more true xs ys i x y hx hy = ap (λ z. take i xs ++ z ∷ []) (sym (get_or_from_slice_get xs i x x hx)) ∙ sym (take_more xs i x (slice_get_within xs i x hx))
+front_more false xs ys i x y hx hy = ap (λ z. take i ys ++ z ∷ []) (sym (get_or_from_slice_get ys i y y hy)) ∙ sym (take_more ys i y (slice_get_within ys i y hy))
 
-pub front_all : (c : Bool) (bytes now : List Byte) (i n : ℕ) → length bytes ≡ n → n ≤ i → i ≤ n → now ≡ cond c (take i bytes) (replicate i Poison) → now ≡ cond c bytes (replicate n Poison)
-front_all c bytes now i n long past within so =
-    let e : i ≡ n = omega (arith, past, within) in
-    so ∙ ap (λ k. cond c (take k bytes) (replicate k Poison)) e ∙ ap (λ ys. cond c ys (replicate n Poison)) (take_all n bytes (omega (arith, long)))
+pub front_all : (c : Bool) (xs ys now : List Byte) (i n : ℕ) → length xs ≡ n → length ys ≡ n → n ≤ i → now ≡ cond c (take i xs) (take i ys) → now ≡ cond c xs ys
+front_all c xs ys now i n hx hy past so = so ∙ ap₂ (cond c) (take_all i xs (omega (arith, hx, past))) (take_all i ys (omega (arith, hy, past)))
 
 -- ---- a number's bytes
 
-number-or-poison : (k n : ℕ) (p : Ptr) (part : ℕ) → (k ≡ 1 → ⊥) → byte_of k n p part ≡ cond (nat_eq k 0) (Num n) Poison
-number-or-poison k n p part other = rw (ne_eqb k 1 other) refl
+-- the digits as they are where each of their bits is poison or none is
+pub digits_kept : (c : Bool) (x m : ℕ) → x < 256 → m ≡ 255 → defined_bits x (cond c m 0) ≡ cond c 0 x
+digits_kept true x m small all = ap (defined_bits x) all ∙ defined-none x
+digits_kept false x m small all = defined-all x small
 
-pub number_byte_stands : (old a b c : List Term) (kind value part zero' digits : TermId) (place : ℕ) → IsTerm old 2 kind → IsTerm old 64 value → Keeps old a → Keeps a b → Keeps b c
-    → Makes c digits 8 (λ v. term_at v b value / 2 ^ (8 * place) % 2 ^ 8) → (r : Reading) → (term_at r.v old kind ≡ 1 → ⊥)
-    → byte_at r c (record { kind = kind; number = digits; block = zero'; offset = zero'; part = part }) ≡ cond (nat_eq (term_at r.v old kind) 0) (Num (term_at r.v old value / 2 ^ (8 * place) % 256)) Poison
+pub digits_picked : (c : Bool) (n x m : ℕ) → x < 256 → n ≡ cond c 0 x → defined_bits n (cond c m 0) ≡ cond c 0 x
+digits_picked true n x m small is = ap (λ k. defined_bits k m) is ∙ defined-zero m
+digits_picked false n x m small is = ap (λ k. defined_bits k 0) is ∙ defined-all x small
+
+bits-either : (c : Bool) (n m k x : ℕ) → k ≡ cond c m 0 → defined_bits n (cond c m 0) ≡ cond c 0 x → Bits (defined_bits n k) k ≡ cond c (Bits 0 m) (Bits x 0)
+bits-either true n m k x mask is = rw mask (ap (λ y. Bits y m) is)
+bits-either false n m k x mask is = rw mask (ap (λ y. Bits y 0) is)
+
+pub number_byte_stands : (old c d e f : List Term) (is_poison value is_part mask digits number zero' part : TermId) (place m w : ℕ) → IsTerm old 1 is_poison → IsTerm old 64 value → Keeps old c → Tests c is_part (λ _. false) → m ≡ 2 ^ min (w - 8 * place) 8 - 1
+    → Keeps c d → Makes d mask 8 (λ v. cond (bit_at v c is_poison) m 0) → Keeps d e → Makes e digits 8 (λ v. term_at v d value / 2 ^ (8 * place) % 2 ^ 8)
+    → Keeps e f → ((v : ℕ → ℕ → ℕ) → defined_bits (term_at v f number) (cond (bit_at v e is_poison) m 0) ≡ cond (bit_at v e is_poison) 0 (term_at v e digits)) → (r : Reading)
+    → byte_at r f (record { is_part = is_part; mask = mask; number = number; block = zero'; offset = zero'; part = part })
+    ≡ cond (bit_at r.v old is_poison) (Bits 0 (2 ^ min (w - 8 * place) 8 - 1)) (Bits (term_at r.v old value / 2 ^ (8 * place) % 256) 0)
 unfolding byte_at
-number_byte_stands old a b c kind value part zero' digits place hk hv k1 k2 k3 m r other =
-    let kab = keeps_trans old a b k1 k2 in
-    rw (term-later old c (keeps_trans old b c kab k3) r.v kind hk.within, m.says r.v, term-later old b kab r.v value hv.within)
-    (number-or-poison (term_at r.v old kind) (term_at r.v old value / 2 ^ (8 * place) % 256) (record { block = r.name (term_at r.v c zero'); offset = term_at r.v c zero' }) (term_at r.v c part) other)
+number_byte_stands old c d e f is_poison value is_part mask digits number zero' part place m w hp hv k1 t1 few k2 m2 k3 m3 k4 so r =
+    let kod = keeps_trans old c d k1 k2 in
+    let kcf = keeps_trans c e f (keeps_trans c d e k2 k3) k4 in
+    let poison_e : bit_at r.v e is_poison ≡ bit_at r.v old is_poison = bit-later old e (keeps_trans old d e kod k3) r.v is_poison hp.within in
+    let mask_is : term_at r.v f mask ≡ cond (bit_at r.v old is_poison) m 0 =
+    term-later d f (keeps_trans d e f k3 k4) r.v mask m2.within ∙ (m2.says r.v ∙ ap (λ x. cond x m 0) (bit-later old c k1 r.v is_poison hp.within)) in
+    let digits_are : term_at r.v e digits ≡ term_at r.v old value / 2 ^ (8 * place) % 256 = m3.says r.v ∙ ap (λ x. x / 2 ^ (8 * place) % 256) (term-later old d kod r.v value hv.within) in
+    rw (bit-later c f kcf r.v is_part t1.within, t1.says r.v, ← few)
+    (bits-either (bit_at r.v old is_poison) (term_at r.v f number) m (term_at r.v f mask) (term_at r.v old value / 2 ^ (8 * place) % 256) mask_is (rw (← poison_e, ← digits_are) (so r.v)))
 
 length-number_bytes : (n a : ℕ) → length (number_bytes n a) ≡ n
 unfolding number_bytes
 length-number_bytes zero a = refl
 length-number_bytes (suc n) a = ap suc (length-number_bytes n (a / 256))
 
-pub digits_more : (old a b : List Term) (ka : Keeps old a) (kb : Keeps a b) (kind value : TermId) (now : List SymByte) (byte : SymByte) (i n : ℕ) → IsTerm old 2 kind → IsTerm old 64 value → AreSymBytes a now → i < n → (r : Reading) → (term_at r.v old kind ≡ 1 → ⊥)
-    → places_at r a now ≡ cond (nat_eq (term_at r.v old kind) 0) (take i (number_bytes n (term_at r.v old value))) (replicate i Poison)
-    → ((term_at r.v a kind ≡ 1 → ⊥) → byte_at r b byte ≡ cond (nat_eq (term_at r.v a kind) 0) (Num (term_at r.v a value / 2 ^ (8 * i) % 256)) Poison)
-    → places_at r b (now ++ byte ∷ []) ≡ cond (nat_eq (term_at r.v old kind) 0) (take (i + 1) (number_bytes n (term_at r.v old value))) (replicate (i + 1) Poison)
-digits_more old a b ka kb kind value now byte i n hk hv hnow lt r other before one =
-    let k = term-later old a ka r.v kind hk.within in
-    let x = term-later old a ka r.v value hv.within in
-    let is : byte_at r b byte ≡ cond (nat_eq (term_at r.v old kind) 0) (Num (term_at r.v old value / 2 ^ (8 * i) % 256)) Poison = rw (← k, ← x) (one (λ e. other (sym k ∙ e))) in
+length-poison_bytes : (n w : ℕ) → length (poison_bytes n w) ≡ n
+unfolding poison_bytes
+length-poison_bytes zero w = refl
+length-poison_bytes (suc n) w = ap suc (length-poison_bytes n (w - 8))
+
+pub digits_more : (old a b : List Term) (ka : Keeps old a) (kb : Keeps a b) (is_poison value : TermId) (now : List SymByte) (byte : SymByte) (i n w : ℕ) → IsTerm old 1 is_poison → IsTerm old 64 value → AreSymBytes a now → i < n → (r : Reading)
+    → places_at r a now ≡ cond (bit_at r.v old is_poison) (take i (poison_bytes n w)) (take i (number_bytes n (term_at r.v old value)))
+    → byte_at r b byte ≡ cond (bit_at r.v a is_poison) (Bits 0 (2 ^ min (w - 8 * i) 8 - 1)) (Bits (term_at r.v a value / 2 ^ (8 * i) % 256) 0)
+    → places_at r b (now ++ byte ∷ []) ≡ cond (bit_at r.v old is_poison) (take (i + 1) (poison_bytes n w)) (take (i + 1) (number_bytes n (term_at r.v old value)))
+digits_more old a b ka kb is_poison value now byte i n w hp hv hnow lt r before one =
+    let is : byte_at r b byte ≡ cond (bit_at r.v old is_poison) (Bits 0 (2 ^ min (w - 8 * i) 8 - 1)) (Bits (term_at r.v old value / 2 ^ (8 * i) % 256) 0) =
+    one ∙ rw (bit-later old a ka r.v is_poison hp.within, term-later old a ka r.v value hv.within) refl in
     map-push (byte_at r b) now byte
     ∙ rw (places-later a b kb r now hnow, before, is)
-    (front_more (nat_eq (term_at r.v old kind) 0) (number_bytes n (term_at r.v old value)) i (Num (term_at r.v old value / 2 ^ (8 * i) % 256)) (number_bytes-get n (term_at r.v old value) i lt))
+    (front_more (bit_at r.v old is_poison) (poison_bytes n w) (number_bytes n (term_at r.v old value)) i (Bits 0 (2 ^ min (w - 8 * i) 8 - 1)) (Bits (term_at r.v old value / 2 ^ (8 * i) % 256) 0)
+    (poison_bytes-get n w i lt) (number_bytes-get n (term_at r.v old value) i lt))
 
-pub digits_all : (r : Reading) (old new : List Term) (kind value : TermId) (now : List SymByte) (i n : ℕ) → n ≤ i → i ≤ n
-    → places_at r new now ≡ cond (nat_eq (term_at r.v old kind) 0) (take i (number_bytes n (term_at r.v old value))) (replicate i Poison)
-    → places_at r new now ≡ cond (nat_eq (term_at r.v old kind) 0) (number_bytes n (term_at r.v old value)) (replicate n Poison)
-digits_all r old new kind value now i n past within so =
-    front_all (nat_eq (term_at r.v old kind) 0) (number_bytes n (term_at r.v old value)) (places_at r new now) i n (length-number_bytes n (term_at r.v old value)) past within so
+pub digits_all : (r : Reading) (old new : List Term) (is_poison value : TermId) (now : List SymByte) (i n w : ℕ) → n ≤ i
+    → places_at r new now ≡ cond (bit_at r.v old is_poison) (take i (poison_bytes n w)) (take i (number_bytes n (term_at r.v old value)))
+    → places_at r new now ≡ cond (bit_at r.v old is_poison) (poison_bytes n w) (number_bytes n (term_at r.v old value))
+digits_all r old new is_poison value now i n w past so =
+    front_all (bit_at r.v old is_poison) (poison_bytes n w) (number_bytes n (term_at r.v old value)) (places_at r new now) i n (length-poison_bytes n w) (length-number_bytes n (term_at r.v old value)) past so
 
-pub kind_isn't : (c : Bool) (k m n : ℕ) → k ≡ cond c 2 m → m < 2 → n < 2 → (m ≡ n → ⊥) → k ≡ n → ⊥
-kind_isn't true k m n is small few other e = let h : 2 ≡ n = sym is ∙ e in omega (arith, h, few)
-kind_isn't false k m n is small few other e = other (sym is ∙ e)
+stored-digits : (w : Width) (p q : Bool) (b : BlockName) (x : ℕ) → cond (p || q) (poison_bytes ((w.bits + 7) / 8) w.bits) (number_bytes ((w.bits + 7) / 8) x) ≡ value_bytes (Int w) (value_of p q b x)
+stored-digits w true q b x = refl
+stored-digits w false true b x = refl
+stored-digits w false false b x = refl
 
-stored-digits : (w : Width) (p q : Bool) (b : BlockName) (x n k : ℕ) → n ≡ (w.bits + 7) / 8 → k ≡ cond (p || q) 2 0
-    → cond (nat_eq k 0) (number_bytes n x) (replicate n Poison) ≡ value_bytes (Int w) (value_of p q b x)
-stored-digits w true q b x n k count kind = rw (kind, count) refl
-stored-digits w false true b x n k count kind = rw (kind, count) refl
-stored-digits w false false b x n k count kind = rw (kind, count) refl
-
-pub integer_bytes_stand : (old a b c : List Term) (w : Width) (s : SymValue) (is_poison kind : TermId) (bytes : List SymByte) (n : ℕ) → IsSymValue old s → n ≡ (w.bits + 7) / 8
-    → Keeps old a → Tests a is_poison (λ v. bit_at v old s.poison || bit_at v old s.is_pointer) → Keeps a b → Makes b kind 2 (λ v. cond (bit_at v a is_poison) 2 0)
-    → (r : Reading) → ((term_at r.v b kind ≡ 1 → ⊥) → places_at r c bytes ≡ cond (nat_eq (term_at r.v b kind) 0) (number_bytes n (term_at r.v b s.number)) (replicate n Poison))
-    → places_at r c bytes ≡ value_bytes (Int w) (value_at r old s)
+pub integer_bytes_stand : (old a b : List Term) (w : Width) (s : SymValue) (is_poison : TermId) (bytes : List SymByte) → IsSymValue old s
+    → Keeps old a → Tests a is_poison (λ v. bit_at v old s.poison || bit_at v old s.is_pointer) → (r : Reading)
+    → places_at r b bytes ≡ cond (bit_at r.v a is_poison) (poison_bytes ((w.bits + 7) / 8) w.bits) (number_bytes ((w.bits + 7) / 8) (term_at r.v a s.number))
+    → places_at r b bytes ≡ value_bytes (Int w) (value_at r old s)
 unfolding value_at
-integer_bytes_stand old a b c w s is_poison kind bytes n h count k1 t1 k2 m2 r so =
-    let kind_is : term_at r.v b kind ≡ cond (bit_at r.v old s.poison || bit_at r.v old s.is_pointer) 2 0 = m2.says r.v ∙ ap (λ x. cond x 2 0) (t1.says r.v) in
-    let other = kind_isn't (bit_at r.v old s.poison || bit_at r.v old s.is_pointer) (term_at r.v b kind) 0 1 kind_is (omega arith) (omega arith) (λ e. omega (arith, e)) in
-    so other ∙ rw (term-later old b (keeps_trans old a b k1 k2) r.v s.number h.number.within)
-    (stored-digits w (bit_at r.v old s.poison) (bit_at r.v old s.is_pointer) (r.name (term_at r.v old s.block)) (term_at r.v old s.number) n (term_at r.v b kind) count kind_is)
+integer_bytes_stand old a b w s is_poison bytes h k1 t1 r so =
+    so ∙ rw (t1.says r.v, term-later old a k1 r.v s.number h.number.within)
+    (stored-digits w (bit_at r.v old s.poison) (bit_at r.v old s.is_pointer) (r.name (term_at r.v old s.block)) (term_at r.v old s.number))
 
 -- ---- whether all bytes are numbers
 
@@ -84,19 +98,14 @@ some-mapped : (f : ℕ → ℕ) (o : Option ℕ) → is_some (option_map f o) �
 some-mapped f None = refl
 some-mapped f (Some x) = refl
 
-numbers-first : (k n : ℕ) (p : Ptr) (part : ℕ) (bytes : List Byte) → is_some (number_of_bytes (byte_of k n p part ∷ bytes)) ≡ (nat_eq k 0 && is_some (number_of_bytes bytes))
+numbers-first : (k : Bool) (m n : ℕ) (p : Ptr) (part : ℕ) (bytes : List Byte) → is_some (number_of_bytes (byte_of k m n p part ∷ bytes)) ≡ ((not k && nat_eq m 0) && is_some (number_of_bytes bytes))
 unfolding number_of_bytes
-numbers-first k n p part bytes =
-    elim (cases_Bool (nat_eq k 0)) [
-      | inl e ↦ rw e (some-mapped (λ a. n + 256 * a) (number_of_bytes bytes))
-      | inr e ↦ elim (cases_Bool (nat_eq k 1)) [
-        | inl f ↦ rw (e, f) refl
-        | inr f ↦ rw (e, f) refl
-      ]
-    ]
+numbers-first true m n p part bytes = refl
+numbers-first false zero n p part bytes = some-mapped (λ a. defined_bits n 0 + 256 * a) (number_of_bytes bytes)
+numbers-first false (suc m) n p part bytes = rw (eqb-suc-zero m) refl
 
 pub numbers_more : (old a b c : List Term) (k : Keeps old a) (bytes : List SymByte) (i : ℕ) (byte : SymByte) (all here both : TermId) → AreSymBytes old bytes → i < length bytes → byte ≡ get_or bytes i byte → IsTerm a 1 all → Keeps a b
-    → Tests b here (λ v. nat_eq (term_at v a byte.kind) 0) → Tests c both (λ v. bit_at v b all && bit_at v b here) → (r : Reading)
+    → Tests b here (λ v. not (bit_at v a byte.is_part) && nat_eq (term_at v a byte.mask) 0) → Tests c both (λ v. bit_at v b all && bit_at v b here) → (r : Reading)
     → (bit_at r.v a all && is_some (number_of_bytes (places_at r old (drop i bytes)))) ≡ is_some (number_of_bytes (places_at r old bytes))
     → (bit_at r.v c both && is_some (number_of_bytes (places_at r old (drop (i + 1) bytes)))) ≡ is_some (number_of_bytes (places_at r old bytes))
 unfolding byte_at
@@ -104,9 +113,9 @@ numbers_more old a b c k bytes i byte all here both h lt is ha kb t1 t2 r before
     let item = each-at (IsSymByte old) bytes i byte h lt is in
     let first : is_some (number_of_bytes (places_at r old (drop i bytes))) ≡ is_some (number_of_bytes (byte_at r old byte ∷ places_at r old (drop (i + 1) bytes))) =
     at_drop_more (λ bs. is_some (number_of_bytes (places_at r old bs))) bytes i byte lt ∙ ap (λ x. is_some (number_of_bytes (byte_at r old x ∷ places_at r old (drop (i + 1) bytes)))) (sym is) in
-    let split = numbers-first (term_at r.v old byte.kind) (term_at r.v old byte.number) (record { block = r.name (term_at r.v old byte.block); offset = term_at r.v old byte.offset }) (term_at r.v old byte.part) (places_at r old (drop (i + 1) bytes)) in
-    rw (t2.says r.v, bit-later a b kb r.v all ha.within, t1.says r.v, term-later old a k r.v byte.kind item.kind.within)
-    (and-thrice (bit_at r.v a all) (nat_eq (term_at r.v old byte.kind) 0) (is_some (number_of_bytes (places_at r old (drop (i + 1) bytes)))) (is_some (number_of_bytes (places_at r old bytes)))
+    let split = numbers-first (bit_at r.v old byte.is_part) (term_at r.v old byte.mask) (term_at r.v old byte.number) (record { block = r.name (term_at r.v old byte.block); offset = term_at r.v old byte.offset }) (term_at r.v old byte.part) (places_at r old (drop (i + 1) bytes)) in
+    rw (t2.says r.v, bit-later a b kb r.v all ha.within, t1.says r.v, bit-later old a k r.v byte.is_part item.is_part.within, term-later old a k r.v byte.mask item.mask.within)
+    (and-thrice (bit_at r.v a all) (not (bit_at r.v old byte.is_part) && nat_eq (term_at r.v old byte.mask) 0) (is_some (number_of_bytes (places_at r old (drop (i + 1) bytes)))) (is_some (number_of_bytes (places_at r old bytes)))
     (ap (λ x. bit_at r.v a all && x) (sym (first ∙ split)) ∙ before))
 
 pub numbers_all : (r : Reading) (old : List Term) (x : Bool) (bytes : List SymByte) (i : ℕ) → length bytes ≤ i → (x && is_some (number_of_bytes (places_at r old (drop i bytes)))) ≡ is_some (number_of_bytes (places_at r old bytes)) → x ≡ is_some (number_of_bytes (places_at r old bytes))
@@ -129,16 +138,11 @@ mapped-some f (Some x) a e = (x, refl, same_Some (f x) a e)
 none_isn't : (a : ℕ) {P : Type 0} → None ≡ Some a → P
 none_isn't a e = absurd (cc)
 
-first-number : (k n : ℕ) (p : Ptr) (part : ℕ) (bytes : List Byte) (a : ℕ) → number_of_bytes (byte_of k n p part ∷ bytes) ≡ Some a → (x : ℕ) × (number_of_bytes bytes ≡ Some x) × (n + 256 * x ≡ a)
+first-number : (k : Bool) (m n : ℕ) (p : Ptr) (part : ℕ) (bytes : List Byte) (a : ℕ) → n < 256 → number_of_bytes (byte_of k m n p part ∷ bytes) ≡ Some a → (x : ℕ) × (number_of_bytes bytes ≡ Some x) × (n + 256 * x ≡ a)
 unfolding number_of_bytes
-first-number k n p part bytes a e =
-    elim (cases_Bool (nat_eq k 0)) [
-      | inl f ↦ mapped-some (λ x. n + 256 * x) (number_of_bytes bytes) a (rw f at e)
-      | inr f ↦ elim (cases_Bool (nat_eq k 1)) [
-        | inl g ↦ none_isn't a (rw (f, g) at e)
-        | inr g ↦ none_isn't a (rw (f, g) at e)
-      ]
-    ]
+first-number true m n p part bytes a small e = none_isn't a e
+first-number false zero n p part bytes a small e = mapped-some (λ x. n + 256 * x) (number_of_bytes bytes) a (rw (defined-all n small) at e)
+first-number false (suc m) n p part bytes a small e = none_isn't a e
 
 next-sum : (a low high n x i : ℕ) → a ≡ low + 2 ^ (8 * i) * high → n + 256 * x ≡ high → a ≡ n * 2 ^ (8 * i) + low + 2 ^ (8 * (i + 1)) * x
 next-sum a low high n x i sum split =
@@ -150,25 +154,25 @@ next-sum a low high n x i sum split =
     let turn : m * n ≡ n * m = mul_comm m n in
     omega (arith, sum, top, whole, turn)
 
-front-byte : (r : Reading) (old : List Term) (bytes : List SymByte) (i : ℕ) (byte : SymByte) (high : ℕ) → i < length bytes → byte ≡ get_or bytes i byte → number_of_bytes (places_at r old (drop i bytes)) ≡ Some high
+front-byte : (r : Reading) (old : List Term) (bytes : List SymByte) (i : ℕ) (byte : SymByte) (high : ℕ) → term_at r.v old byte.number < 256 → i < length bytes → byte ≡ get_or bytes i byte → number_of_bytes (places_at r old (drop i bytes)) ≡ Some high
     → (x : ℕ) × (number_of_bytes (places_at r old (drop (i + 1) bytes)) ≡ Some x) × (term_at r.v old byte.number + 256 * x ≡ high)
 unfolding byte_at
-front-byte r old bytes i byte high lt is so =
+front-byte r old bytes i byte high small lt is so =
     let first : number_of_bytes (places_at r old (drop i bytes)) ≡ number_of_bytes (byte_at r old byte ∷ places_at r old (drop (i + 1) bytes)) =
     at_drop_more (λ bs. number_of_bytes (places_at r old bs)) bytes i byte lt ∙ ap (λ x. number_of_bytes (byte_at r old x ∷ places_at r old (drop (i + 1) bytes))) (sym is) in
-    first-number (term_at r.v old byte.kind) (term_at r.v old byte.number) (record { block = r.name (term_at r.v old byte.block); offset = term_at r.v old byte.offset }) (term_at r.v old byte.part) (places_at r old (drop (i + 1) bytes)) high (sym first ∙ so)
+    first-number (bit_at r.v old byte.is_part) (term_at r.v old byte.mask) (term_at r.v old byte.number) (record { block = r.name (term_at r.v old byte.block); offset = term_at r.v old byte.offset }) (term_at r.v old byte.part) (places_at r old (drop (i + 1) bytes)) high small (sym first ∙ so)
 
-pub joined_first : (r : Reading) (old : List Term) (bytes : List SymByte) (byte : SymByte) (a : ℕ) → 0 < length bytes → byte ≡ get_or bytes 0 byte → number_of_bytes (places_at r old bytes) ≡ Some a → Left (places_at r old (drop 1 bytes)) a (term_at r.v old byte.number) 1
-joined_first r old bytes byte a lt is so =
-    let f = front-byte r old bytes 0 byte a lt is so in
+pub joined_first : (r : Reading) (old : List Term) (bytes : List SymByte) (byte : SymByte) (a : ℕ) → AreInRange old → IsSymByte old byte → 0 < length bytes → byte ≡ get_or bytes 0 byte → number_of_bytes (places_at r old bytes) ≡ Some a → Left (places_at r old (drop 1 bytes)) a (term_at r.v old byte.number) 1
+joined_first r old bytes byte a range item lt is so =
+    let f = front-byte r old bytes 0 byte a (term-below old 8 byte.number range item.number r.v) lt is so in
     record { high = f.0; is = f.1; sum = sym f.2 }
 
-pub joined_more : (r : Reading) (old a b : List Term) (k : Keeps old a) (bytes : List SymByte) (i : ℕ) (byte : SymByte) (low next : TermId) (n : ℕ) → AreSymBytes old bytes → i < length bytes → byte ≡ get_or bytes i byte → IsTerm a (8 * i) low
+pub joined_more : (r : Reading) (old a b : List Term) (k : Keeps old a) (bytes : List SymByte) (i : ℕ) (byte : SymByte) (low next : TermId) (n : ℕ) → AreInRange old → AreSymBytes old bytes → i < length bytes → byte ≡ get_or bytes i byte → IsTerm a (8 * i) low
     → Makes b next (width_of (tree_in a byte.number) + width_of (tree_in a low)) (λ v. term_at v a byte.number * 2 ^ width_of (tree_in a low) + term_at v a low)
     → Left (places_at r old (drop i bytes)) n (term_at r.v a low) i → Left (places_at r old (drop (i + 1) bytes)) n (term_at r.v b next) (i + 1)
-joined_more r old a b k bytes i byte low next n h lt is ha m left =
+joined_more r old a b k bytes i byte low next n range h lt is ha m left =
     let item = each-at (IsSymByte old) bytes i byte h lt is in
-    let f = front-byte r old bytes i byte left.high lt is left.is in
+    let f = front-byte r old bytes i byte left.high (term-below old 8 byte.number range item.number r.v) lt is left.is in
     let now : term_at r.v b next ≡ term_at r.v old byte.number * 2 ^ (8 * i) + term_at r.v a low =
     m.says r.v ∙ rw (ha.wide, term-later old a k r.v byte.number item.number.within) refl in
     record { high = f.0; is = f.1; sum = rw now (next-sum n (term_at r.v a low) left.high (term_at r.v old byte.number) f.0 i left.sum f.2) }

@@ -1,7 +1,8 @@
 -- Pointers as bytes, and bytes as pointers.
-use Rattle.byte_terms.proofs.Common.{ℕ, zero, suc, ◌≡◌, ◌<◌, ◌≤◌, ◌+◌, Bool, true, false, cond, not, ◌&&◌, ◌||◌, nat_eq, List, [], ◌∷◌, ◌++◌, length, take, drop, replicate, get_or, Some, refl, ap, sym, ◌∙◌, inl, inr, arith, eqb-true, slice_get, cases_Bool, ne_eqb, at_drop_all, at_drop_more, BlockName, Ptr, Byte, Part, Poison, Pointer, equal_pointers, are_parts, is_part_of, parts_from, pointer_or_poison, value_bytes, parts_from-get, TermId, Term, IsTerm, Keeps, Makes, Tests, bit_at, term_at, SymByte, SymValue, IsNaming, IsSymValue, Reading, value_at, value_of, AreSymBytes, IsSymByte, byte_at, byte_of, places_at, each-at, map-push, bit-later, keeps_trans, places-later, term-later}
+use Rattle.byte_terms.proofs.Common.{ℕ, zero, suc, ◌≡◌, ◌<◌, ◌≤◌, ◌+◌, Bool, true, false, cond, not, ◌&&◌, nat_eq, List, [], ◌∷◌, ◌++◌, length, take, drop, replicate, get_or, Some, refl, ap, sym, ◌∙◌, inl, inr, arith, slice_get, cases_Bool, at_drop_all, at_drop_more, BlockName, Ptr, Byte, Bits, Part, Pointer, equal_pointers, are_parts, is_part_of, parts_from, poison_bytes, pointer_or_poison, value_bytes, parts_from-get, defined-zero, TermId, Term, IsTerm, Keeps, Makes, Tests, bit_at, term_at, SymByte, SymValue, IsNaming, IsSymValue, Reading, value_at, value_of, AreSymBytes, IsSymByte, byte_at, byte_of, places_at, each-at, map-push, bit-later, keeps_trans, places-later, term-later}
 use Rattle.byte_terms.proofs.Naming.{equal_numbers}
-use Rattle.byte_terms.proofs.Digits.{front_all, front_more, kind_isn't}
+use Rattle.byte_terms.proofs.Digits.{front_all, front_more}
+use Rattle.byte_terms.proofs.ByteLists.{length-replicate, replicate-get}
 use Rattle.byte_terms.proofs.Bools.{and-thrice, and-yes}
 
 -- the pointer that two terms denote
@@ -13,16 +14,19 @@ pointer-later old new k r block offset hb ho = rw (term-later old new k r.v bloc
 
 -- ---- a pointer's parts
 
-part-or-poison : (k n : ℕ) (p : Ptr) (part : ℕ) → (k ≡ 0 → ⊥) → byte_of k n p part ≡ cond (nat_eq k 1) (Part p part) Poison
-part-or-poison k n p part other = rw (ne_eqb k 0 other) refl
+part-or-poison : (c : Bool) (m n k : ℕ) (p : Ptr) (part : ℕ) → m ≡ 255 → n ≡ 0 → k ≡ part → byte_of c m n p k ≡ cond c (Part p part) (Bits 0 255)
+part-or-poison true m n k p part all none is = ap (Part p) is
+part-or-poison false m n k p part all none is = rw (all, none) (ap (λ x. Bits x 255) (defined-zero 255))
 
-pub pointer_part_stands : (old a b : List Term) (kind number block offset part : TermId) (place : ℕ) → IsTerm old 2 kind → IsTerm old 64 block → IsTerm old 64 offset → Keeps old a → Keeps a b → Makes b part 3 (λ _. place) → (r : Reading)
-    → (term_at r.v old kind ≡ 0 → ⊥) → byte_at r b (record { kind = kind; number = number; block = block; offset = offset; part = part }) ≡ cond (nat_eq (term_at r.v old kind) 1) (Part (pointer_at r old block offset) place) Poison
+pub pointer_part_stands : (old a b c : List Term) (is_part mask number block offset part : TermId) (place : ℕ) → IsTerm old 1 is_part → IsTerm old 64 block → IsTerm old 64 offset
+    → Keeps old a → Makes a mask 8 (λ _. 255) → Keeps a b → Makes b number 8 (λ _. 0) → Keeps b c → Makes c part 3 (λ _. place) → (r : Reading)
+    → byte_at r c (record { is_part = is_part; mask = mask; number = number; block = block; offset = offset; part = part }) ≡ cond (bit_at r.v old is_part) (Part (pointer_at r old block offset) place) (Bits 0 255)
 unfolding byte_at
-pointer_part_stands old a b kind number block offset part place hk hb ho k1 k2 m r other =
-    let k = keeps_trans old a b k1 k2 in
-    rw (term-later old b k r.v kind hk.within, term-later old b k r.v block hb.within, term-later old b k r.v offset ho.within, m.says r.v)
-    (part-or-poison (term_at r.v old kind) (term_at r.v b number) (pointer_at r old block offset) place other)
+pointer_part_stands old a b c is_part mask number block offset part place hp hb ho k1 m1 k2 m2 k3 m3 r =
+    let k = keeps_trans old b c (keeps_trans old a b k1 k2) k3 in
+    rw (bit-later old c k r.v is_part hp.within, term-later old c k r.v block hb.within, term-later old c k r.v offset ho.within)
+    (part-or-poison (bit_at r.v old is_part) (term_at r.v c mask) (term_at r.v c number) (term_at r.v c part) (pointer_at r old block offset) place
+    (term-later a c (keeps_trans a b c k2 k3) r.v mask m1.within ∙ m1.says r.v) (term-later b c k3 r.v number m2.within ∙ m2.says r.v) (m3.says r.v))
 
 length-parts_from : (p : Ptr) (i n : ℕ) → length (parts_from p i n) ≡ n
 unfolding parts_from
@@ -32,68 +36,62 @@ length-parts_from p i (suc n) = ap suc (length-parts_from p (i + 1) n)
 part-get : (p : Ptr) (k : ℕ) → k < 8 → slice_get (parts_from p 0 8) k ≡ Some (Part p k)
 part-get p k lt = let e : 0 + k ≡ k = omega arith in parts_from-get p 0 8 k lt ∙ ap (λ j. Some (Part p j)) e
 
-pub parts_more : (old a b : List Term) (ka : Keeps old a) (kb : Keeps a b) (kind block offset : TermId) (now : List SymByte) (byte : SymByte) (i : ℕ) → IsTerm old 2 kind → IsTerm old 64 block → IsTerm old 64 offset → AreSymBytes a now → i < 8 → (r : Reading) → (term_at r.v old kind ≡ 0 → ⊥)
-    → places_at r a now ≡ cond (nat_eq (term_at r.v old kind) 1) (take i (parts_from (pointer_at r old block offset) 0 8)) (replicate i Poison)
-    → ((term_at r.v a kind ≡ 0 → ⊥) → byte_at r b byte ≡ cond (nat_eq (term_at r.v a kind) 1) (Part (pointer_at r a block offset) i) Poison)
-    → places_at r b (now ++ byte ∷ []) ≡ cond (nat_eq (term_at r.v old kind) 1) (take (i + 1) (parts_from (pointer_at r old block offset) 0 8)) (replicate (i + 1) Poison)
-parts_more old a b ka kb kind block offset now byte i hk hb ho hnow lt r other before one =
-    let k = term-later old a ka r.v kind hk.within in
-    let p = pointer-later old a ka r block offset hb.within ho.within in
-    let is : byte_at r b byte ≡ cond (nat_eq (term_at r.v old kind) 1) (Part (pointer_at r old block offset) i) Poison =
-    one (λ e. other (sym k ∙ e)) ∙ (ap (λ n. cond (nat_eq n 1) (Part (pointer_at r a block offset) i) Poison) k ∙ ap (λ q. cond (nat_eq (term_at r.v old kind) 1) (Part q i) Poison) p) in
+pub parts_more : (old a b : List Term) (ka : Keeps old a) (kb : Keeps a b) (is_part block offset : TermId) (now : List SymByte) (byte : SymByte) (i : ℕ) → IsTerm old 1 is_part → IsTerm old 64 block → IsTerm old 64 offset → AreSymBytes a now → i < 8 → (r : Reading)
+    → places_at r a now ≡ cond (bit_at r.v old is_part) (take i (parts_from (pointer_at r old block offset) 0 8)) (take i (replicate 8 (Bits 0 255)))
+    → byte_at r b byte ≡ cond (bit_at r.v a is_part) (Part (pointer_at r a block offset) i) (Bits 0 255)
+    → places_at r b (now ++ byte ∷ []) ≡ cond (bit_at r.v old is_part) (take (i + 1) (parts_from (pointer_at r old block offset) 0 8)) (take (i + 1) (replicate 8 (Bits 0 255)))
+parts_more old a b ka kb is_part block offset now byte i hp hb ho hnow lt r before one =
+    let p = pointer_at r old block offset in
+    let is : byte_at r b byte ≡ cond (bit_at r.v old is_part) (Part p i) (Bits 0 255) =
+    one ∙ (ap (λ c. cond c (Part (pointer_at r a block offset) i) (Bits 0 255)) (bit-later old a ka r.v is_part hp.within)
+    ∙ ap (λ q. cond (bit_at r.v old is_part) (Part q i) (Bits 0 255)) (pointer-later old a ka r block offset hb.within ho.within)) in
     map-push (byte_at r b) now byte
     ∙ rw (places-later a b kb r now hnow, before, is)
-    (front_more (nat_eq (term_at r.v old kind) 1) (parts_from (pointer_at r old block offset) 0 8) i (Part (pointer_at r old block offset) i) (part-get (pointer_at r old block offset) i lt))
+    (front_more (bit_at r.v old is_part) (parts_from p 0 8) (replicate 8 (Bits 0 255)) i (Part p i) (Bits 0 255) (part-get p i lt) (replicate-get 8 (Bits 0 255) i lt))
 
-pub parts_all : (r : Reading) (old new : List Term) (kind block offset : TermId) (now : List SymByte) (i : ℕ) → 8 ≤ i → i ≤ 8
-    → places_at r new now ≡ cond (nat_eq (term_at r.v old kind) 1) (take i (parts_from (pointer_at r old block offset) 0 8)) (replicate i Poison)
-    → places_at r new now ≡ cond (nat_eq (term_at r.v old kind) 1) (parts_from (pointer_at r old block offset) 0 8) (replicate 8 Poison)
-parts_all r old new kind block offset now i past within so =
-    front_all (nat_eq (term_at r.v old kind) 1) (parts_from (pointer_at r old block offset) 0 8) (places_at r new now) i 8 (length-parts_from (pointer_at r old block offset) 0 8) past within so
+pub parts_all : (r : Reading) (old new : List Term) (is_part block offset : TermId) (now : List SymByte) (i : ℕ) → 8 ≤ i
+    → places_at r new now ≡ cond (bit_at r.v old is_part) (take i (parts_from (pointer_at r old block offset) 0 8)) (take i (replicate 8 (Bits 0 255)))
+    → places_at r new now ≡ cond (bit_at r.v old is_part) (parts_from (pointer_at r old block offset) 0 8) (replicate 8 (Bits 0 255))
+parts_all r old new is_part block offset now i past so =
+    front_all (bit_at r.v old is_part) (parts_from (pointer_at r old block offset) 0 8) (replicate 8 (Bits 0 255)) (places_at r new now) i 8
+    (length-parts_from (pointer_at r old block offset) 0 8) (length-replicate 8 (Bits 0 255)) past so
 
-stored-parts : (p q : Bool) (b : BlockName) (x k : ℕ) → k ≡ cond (p || not q) 2 1 → cond (nat_eq k 1) (parts_from (record { block = b; offset = x }) 0 8) (replicate 8 Poison) ≡ value_bytes Pointer (value_of p q b x)
-stored-parts true q b x k kind = rw kind refl
-stored-parts false true b x k kind = rw kind refl
-stored-parts false false b x k kind = rw kind refl
+stored-parts : (p q : Bool) (b : BlockName) (x : ℕ) → cond (not p && q) (parts_from (record { block = b; offset = x }) 0 8) (replicate 8 (Bits 0 255)) ≡ value_bytes Pointer (value_of p q b x)
+unfolding poison_bytes
+stored-parts true q b x = refl
+stored-parts false true b x = refl
+stored-parts false false b x = refl
 
-pub pointer_bytes_stand : (old a b c d : List Term) (s : SymValue) (is_number is_poison kind : TermId) (bytes : List SymByte) → IsSymValue old s
-    → Keeps old a → Tests a is_number (λ v. not (bit_at v old s.is_pointer)) → Keeps a b → Tests b is_poison (λ v. bit_at v a s.poison || bit_at v a is_number) → Keeps b c → Makes c kind 2 (λ v. cond (bit_at v b is_poison) 2 1)
-    → (r : Reading) → ((term_at r.v c kind ≡ 0 → ⊥) → places_at r d bytes ≡ cond (nat_eq (term_at r.v c kind) 1) (parts_from (pointer_at r c s.block s.number) 0 8) (replicate 8 Poison))
-    → places_at r d bytes ≡ value_bytes Pointer (value_at r old s)
+pub pointer_bytes_stand : (old a b c : List Term) (s : SymValue) (is_defined is_part : TermId) (bytes : List SymByte) → IsSymValue old s
+    → Keeps old a → Tests a is_defined (λ v. not (bit_at v old s.poison)) → Keeps a b → Tests b is_part (λ v. bit_at v a is_defined && bit_at v a s.is_pointer)
+    → (r : Reading) → places_at r c bytes ≡ cond (bit_at r.v b is_part) (parts_from (pointer_at r b s.block s.number) 0 8) (replicate 8 (Bits 0 255))
+    → places_at r c bytes ≡ value_bytes Pointer (value_at r old s)
 unfolding value_at
-pointer_bytes_stand old a b c d s is_number is_poison kind bytes h k1 t1 k2 t2 k3 m3 r so =
-    let k = keeps_trans old b c (keeps_trans old a b k1 k2) k3 in
-    let poison_is : bit_at r.v b is_poison ≡ (bit_at r.v old s.poison || not (bit_at r.v old s.is_pointer)) = t2.says r.v ∙ rw (bit-later old a k1 r.v s.poison h.poison.within, t1.says r.v) refl in
-    let kind_is : term_at r.v c kind ≡ cond (bit_at r.v old s.poison || not (bit_at r.v old s.is_pointer)) 2 1 = m3.says r.v ∙ ap (λ x. cond x 2 1) poison_is in
-    let other = kind_isn't (bit_at r.v old s.poison || not (bit_at r.v old s.is_pointer)) (term_at r.v c kind) 1 0 kind_is (omega arith) (omega arith) (λ e. omega (arith, e)) in
-    so other ∙ rw (term-later old c k r.v s.block h.block.within, term-later old c k r.v s.number h.number.within)
-    (stored-parts (bit_at r.v old s.poison) (bit_at r.v old s.is_pointer) (r.name (term_at r.v old s.block)) (term_at r.v old s.number) (term_at r.v c kind) kind_is)
+pointer_bytes_stand old a b c s is_defined is_part bytes h k1 t1 k2 t2 r so =
+    let k = keeps_trans old a b k1 k2 in
+    let part_is : bit_at r.v b is_part ≡ (not (bit_at r.v old s.poison) && bit_at r.v old s.is_pointer) = t2.says r.v ∙ rw (bit-later old a k1 r.v s.is_pointer h.is_pointer.within, t1.says r.v) refl in
+    so ∙ rw (part_is, term-later old b k r.v s.block h.block.within, term-later old b k r.v s.number h.number.within)
+    (stored-parts (bit_at r.v old s.poison) (bit_at r.v old s.is_pointer) (r.name (term_at r.v old s.block)) (term_at r.v old s.number))
 
 -- ---- one part
 
-part-of-byte : (p q : Ptr) (k n j i : ℕ) → (nat_eq k 1 && (equal_pointers p q && nat_eq j i)) ≡ is_part_of p i (byte_of k n q j)
-part-of-byte p q k n j i =
-    elim (cases_Bool (nat_eq k 0)) as (λ _. (nat_eq k 1 && (equal_pointers p q && nat_eq j i)) ≡ is_part_of p i (byte_of k n q j)) [
-      | inl e ↦ rw (eqb-true k 0 e) refl
-      | inr e ↦ elim (cases_Bool (nat_eq k 1)) as (λ _. (nat_eq k 1 && (equal_pointers p q && nat_eq j i)) ≡ is_part_of p i (byte_of k n q j)) [
-        | inl f ↦ rw (e, f) refl
-        | inr f ↦ rw (e, f) refl
-      ]
-    ]
+part-of-byte : (p q : Ptr) (k : Bool) (m n j i : ℕ) → (k && (equal_pointers p q && nat_eq j i)) ≡ is_part_of p i (byte_of k m n q j)
+part-of-byte p q true m n j i = refl
+part-of-byte p q false m n j i = refl
 
-pub is_part_stands : (old a b c d e : List Term) (block offset : TermId) (byte : SymByte) (place : ℕ) (same_pointer same_place is_same is_pointer id : TermId) → IsSymByte old byte
+pub is_part_stands : (old a b c d : List Term) (block offset : TermId) (byte : SymByte) (place : ℕ) (same_pointer same_place is_same id : TermId) → IsSymByte old byte
     → Keeps old a → Tests a same_pointer (λ v. nat_eq (term_at v old block) (term_at v old byte.block) && nat_eq (term_at v old offset) (term_at v old byte.offset)) → Keeps a b → Tests b same_place (λ v. nat_eq (term_at v a byte.part) place)
-    → Keeps b c → Tests c is_same (λ v. bit_at v b same_pointer && bit_at v b same_place) → Keeps c d → Tests d is_pointer (λ v. nat_eq (term_at v c byte.kind) 1) → Tests e id (λ v. bit_at v d is_pointer && bit_at v d is_same)
-    → (r : Reading) → IsNaming r.name → bit_at r.v e id ≡ is_part_of (pointer_at r old block offset) place (byte_at r old byte)
+    → Keeps b c → Tests c is_same (λ v. bit_at v b same_pointer && bit_at v b same_place) → Tests d id (λ v. bit_at v c byte.is_part && bit_at v c is_same)
+    → (r : Reading) → IsNaming r.name → bit_at r.v d id ≡ is_part_of (pointer_at r old block offset) place (byte_at r old byte)
 unfolding byte_at
-is_part_stands old a b c d e block offset byte place same_pointer same_place is_same is_pointer id h k1 t1 k2 t2 k3 t3 k4 t4 t5 r hn =
+is_part_stands old a b c d block offset byte place same_pointer same_place is_same id h k1 t1 k2 t2 k3 t3 t4 r hn =
     let kac = keeps_trans old b c (keeps_trans old a b k1 k2) k3 in
     let names = equal_numbers r.name hn (term_at r.v old block) (term_at r.v old byte.block) in
     let pointer_is : bit_at r.v b same_pointer ≡ equal_pointers (pointer_at r old block offset) (pointer_at r old byte.block byte.offset) =
     bit-later a b k2 r.v same_pointer t1.within ∙ (t1.says r.v ∙ rw (← names) refl) in
     let place_is : bit_at r.v b same_place ≡ nat_eq (term_at r.v old byte.part) place = t2.says r.v ∙ ap (λ n. nat_eq n place) (term-later old a k1 r.v byte.part h.part.within) in
-    t5.says r.v ∙ rw (t4.says r.v, term-later old c kac r.v byte.kind h.kind.within, bit-later c d k4 r.v is_same t3.within, t3.says r.v, pointer_is, place_is)
-    (part-of-byte (pointer_at r old block offset) (pointer_at r old byte.block byte.offset) (term_at r.v old byte.kind) (term_at r.v old byte.number) (term_at r.v old byte.part) place)
+    t4.says r.v ∙ rw (bit-later old c kac r.v byte.is_part h.is_part.within, t3.says r.v, pointer_is, place_is)
+    (part-of-byte (pointer_at r old block offset) (pointer_at r old byte.block byte.offset) (bit_at r.v old byte.is_part) (term_at r.v old byte.mask) (term_at r.v old byte.number) (term_at r.v old byte.part) place)
 
 -- ---- all parts
 
@@ -121,20 +119,14 @@ are_parts_all r old p x bytes i long past within so =
 
 -- ---- the pointer that bytes are read as
 
-read-pointer : (k n j : ℕ) (p : Ptr) (bytes : List Byte) → value_of (not (are_parts p 0 (byte_of k n p j ∷ bytes))) true p.block p.offset ≡ pointer_or_poison (byte_of k n p j ∷ bytes)
+read-pointer : (k : Bool) (m n j : ℕ) (p : Ptr) (bytes : List Byte) → value_of (not (are_parts p 0 (byte_of k m n p j ∷ bytes))) true p.block p.offset ≡ pointer_or_poison (byte_of k m n p j ∷ bytes)
 unfolding are_parts
-read-pointer k n j p bytes =
-    elim (cases_Bool (nat_eq k 0)) as (λ _. value_of (not (are_parts p 0 (byte_of k n p j ∷ bytes))) true p.block p.offset ≡ pointer_or_poison (byte_of k n p j ∷ bytes)) [
-      | inl e ↦ rw e refl
-      | inr e ↦ elim (cases_Bool (nat_eq k 1)) as (λ _. value_of (not (are_parts p 0 (byte_of k n p j ∷ bytes))) true p.block p.offset ≡ pointer_or_poison (byte_of k n p j ∷ bytes)) [
-        | inl f ↦ rw (e, f)
-            (elim (cases_Bool (are_parts p 0 (Part p j ∷ bytes))) as (λ _. value_of (not (are_parts p 0 (Part p j ∷ bytes))) true p.block p.offset ≡ pointer_or_poison (Part p j ∷ bytes)) [
-              | inl g ↦ rw g refl
-              | inr g ↦ rw g refl
-            ])
-        | inr f ↦ rw (e, f) refl
-      ]
+read-pointer true m n j p bytes =
+    elim (cases_Bool (are_parts p 0 (Part p j ∷ bytes))) as (λ _. value_of (not (are_parts p 0 (Part p j ∷ bytes))) true p.block p.offset ≡ pointer_or_poison (Part p j ∷ bytes)) [
+      | inl g ↦ rw g refl
+      | inr g ↦ rw g refl
     ]
+read-pointer false m n j p bytes = refl
 
 first-byte : (bytes : List SymByte) (byte : SymByte) → 0 < length bytes → byte ≡ get_or bytes 0 byte → bytes ≡ byte ∷ drop 1 bytes
 first-byte [] byte lt is = absurd (omega arith)
@@ -152,5 +144,5 @@ pointer_of_bytes_stands old a b c bytes first all poison is_pointer h lt is k1 k
     let front = first-byte bytes first lt is in
     rw (bit-later b c k3 r.v poison t2.within, t2.says r.v, all_is, t3.says r.v, term-later old c k r.v first.block item.block.within, term-later old c k r.v first.offset item.offset.within)
     (ap (λ bs. value_of (not (are_parts p 0 (places_at r old bs))) true p.block p.offset) front
-    ∙ read-pointer (term_at r.v old first.kind) (term_at r.v old first.number) (term_at r.v old first.part) p (places_at r old (drop 1 bytes))
+    ∙ read-pointer (bit_at r.v old first.is_part) (term_at r.v old first.mask) (term_at r.v old first.number) (term_at r.v old first.part) p (places_at r old (drop 1 bytes))
     ∙ ap (λ bs. pointer_or_poison (places_at r old bs)) (sym front))

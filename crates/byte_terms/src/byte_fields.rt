@@ -8,16 +8,15 @@ use mem_terms::{equals, pick};
 use support::NoMemory;
 use term_rules::constant;
 
-/// The kind of poison where the condition is true, else this one, 0 or 1.
-pub fn kind_unless(terms: &mut Terms, is_poison: TermId, kind: u128) -> Result<TermId, NoMemory>
-    requires is_poison { IsTerm terms.old 1 is_poison }
-    requires kind { kind < 2 }
-    ensures made { IfOk result (λ id. Makes terms.new id 2 (λ v. cond (bit_at v terms.old is_poison) 2 kind)) }
+/// This mask where the condition is true, else 0.
+pub fn mask_where(terms: &mut Terms, is_poison: TermId, mask: u8) -> Result<TermId, NoMemory>
+    requires { IsTerm terms.old 1 is_poison }
+    ensures made { IfOk result (λ id. Makes terms.new id 8 (λ v. cond (bit_at v terms.old is_poison) mask 0)) }
     ensures kept { Keeps terms.old terms.new }
 {
-    let without = constant(terms, 2, 2)?;
-    let with = constant(terms, kind, 2)?;
-    let id = pick(terms, is_poison, without, with)?;
+    let poison = constant(terms, mask as u128, 8)?;
+    let none = constant(terms, 0, 8)?;
+    let id = pick(terms, is_poison, poison, none)?;
     Ok(id)
 }
 

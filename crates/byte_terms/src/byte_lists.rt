@@ -1,7 +1,7 @@
 //! Lists of bytes.
 
 ghost use Rattle.std.specs.Prelude.{◌≡◌, IfOk, cond, length, replicate};
-ghost use Rattle.byte_block.specs.declared.value.Byte.TheVariants.{Poison};
+ghost use Rattle.byte_block.specs.declared.value.Byte.TheVariants.{Bits};
 ghost use Rattle.bv_terms.specs.Trees.{IsTerm, Keeps, bit_at};
 ghost use Rattle.mem_terms.specs.Values.{Reading};
 ghost use Rattle.mem_terms.specs.Memory.{AreSymBytes, places_at};
@@ -11,7 +11,7 @@ use mem_terms::{SymByte, pick_byte, poison_byte};
 use std::alloc::Global;
 use support::{NoMemory, Sequence};
 
-/// This number of poison bytes.
+/// This number of bytes whose bits are all poison.
 pub fn poison_bytes(
     alloc: Global,
     terms: &mut Terms,
@@ -19,7 +19,7 @@ pub fn poison_bytes(
 ) -> Result<Sequence<SymByte>, NoMemory>
     ensures made { IfOk result (AreSymBytes terms.new) }
     ensures count { IfOk result (λ bytes. length bytes ≡ count) }
-    ensures stands { IfOk result (λ bytes. (r : Reading) → places_at r terms.new bytes ≡ replicate count Poison) }
+    ensures stands { IfOk result (λ bytes. (r : Reading) → places_at r terms.new bytes ≡ replicate count (Bits 0 255)) }
     ensures kept { Keeps terms.old terms.new }
 {
     let byte = poison_byte(terms)?;

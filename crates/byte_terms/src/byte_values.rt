@@ -43,7 +43,7 @@ pub fn bytes_of_value(
     }
 }
 
-/// The value that the bytes are read as: a number where all are numbers and it is one of the
+/// The value that the bytes are read as: a number where no bit is poison and it is one of the
 /// access's width, a pointer where they are its parts 0 to 7, else poison (LLVM Language
 /// Reference, "load Instruction").
 pub fn value_of_bytes(

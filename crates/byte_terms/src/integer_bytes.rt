@@ -1,18 +1,20 @@
 //! Numbers and their bytes, the least significant first.
 
-ghost use Rattle.std.specs.Prelude.{◌≡◌, ◌<◌, ◌≤◌, ◌+◌, ◌*◌, ◌/◌, ◌%◌, ◌^◌, ℕ, IfOk, Some, cond, length, nat_eq, nat_lt, replicate};
+ghost use Rattle.std.specs.Prelude.{◌≡◌, ◌<◌, ◌≤◌, ◌+◌, ◌-◌, ◌*◌, ◌/◌, ◌%◌, ◌^◌, ◌&&◌, ℕ, IfOk, Some, cond, length, min, nat_eq, nat_lt, not};
 ghost use Rattle.std.specs.Option.{is_some};
-ghost use Rattle.byte_block.specs.declared.value.Byte.TheVariants.{Num, Poison};
+ghost use Rattle.byte_block.specs.declared.value.Byte.TheVariants.{Bits};
 ghost use Rattle.memory_access.specs.declared.access_types.Access.TheVariants.{Int};
 ghost use Rattle.memory_access.specs.Bytes as meant;
+ghost use Rattle.memory_access.specs.Bytes.{defined_bits};
 ghost use Rattle.bv_terms.specs.Trees.{IsTerm, Keeps, Tests, bit_at, term_at};
 ghost use Rattle.mem_terms.specs.Values.{IsSymValue, Reading, value_at};
 ghost use Rattle.mem_terms.specs.Memory.{AreSymBytes, IsSymByte, byte_at, places_at};
 
-use crate::byte_fields::{has_value, kind_unless};
+use crate::byte_fields::{has_value, mask_where};
 use bv_terms::{TermId, Terms};
 use mem_terms::{
-    SymByte, SymNumber, SymValue, both, either, equals, integer_value, negation, number, truth,
+    SymByte, SymNumber, SymValue, both, either, equals, integer_value, negation, number, pick,
+    truth,
 };
 use std::alloc::Global;
 use support::{NoMemory, Sequence};
@@ -28,52 +30,89 @@ pub fn byte_count(width: Width) -> usize
     (width.bits() as usize).div_ceil(8)
 }
 
-/// The byte of a number at an index, which is not a part of a pointer.
+/// The mask of the poison bits in the byte at an index of a number of the width.
+fn poison_mask(width: Width, place: usize) -> u8
+    requires { place < 8 }
+    ensures { result ≡ 2 ^ min (width.bits - 8 * place) 8 - 1 }
+{
+    let above = (width.bits() as usize).saturating_sub(8 * place);
+    if above < 8 { (1 << above) - 1 } else { u8::MAX }
+}
+
+/// The number of a byte that has these digits where the condition is false, and this mask where it
+/// is true: what it has in a bit of the mask has no meaning.
+fn digits_unless(
+    terms: &mut Terms,
+    is_poison: TermId,
+    mask: u8,
+    digits: TermId,
+) -> Result<TermId, NoMemory>
+    requires is_poison { IsTerm terms.old 1 is_poison }
+    requires digits { IsTerm terms.old 8 digits }
+    ensures made { IfOk result (IsTerm terms.new 8) }
+    ensures stands { IfOk result (λ id. (v : ℕ → ℕ → ℕ) → defined_bits (term_at v terms.new id) (cond (bit_at v terms.old is_poison) mask 0) ≡ cond (bit_at v terms.old is_poison) 0 (term_at v terms.old digits)) }
+    ensures kept { Keeps terms.old terms.new }
+{
+    terms.values_fit();
+    if mask == u8::MAX {
+        return Ok(digits);
+    }
+    let zero = constant(terms, 0, 8)?;
+    let number = pick(terms, is_poison, zero, digits)?;
+    Ok(number)
+}
+
+/// The byte of a number of the width at an index, or where the condition is true its poison bits.
 fn number_byte(
     terms: &mut Terms,
-    kind: TermId,
+    is_poison: TermId,
     value: TermId,
+    width: Width,
     place: usize,
 ) -> Result<SymByte, NoMemory>
-    requires kind { IsTerm terms.old 2 kind }
+    requires is_poison { IsTerm terms.old 1 is_poison }
     requires value { IsTerm terms.old 64 value }
     requires place { place < 8 }
     ensures made { IfOk result (IsSymByte terms.new) }
-    ensures stands { IfOk result (λ b. (r : Reading) → (term_at r.v terms.old kind ≡ 1 → ⊥)
-        → byte_at r terms.new b ≡ cond (nat_eq (term_at r.v terms.old kind) 0) (Num (term_at r.v terms.old value / 2 ^ (8 * place) % 256)) Poison) }
+    ensures stands { IfOk result (λ b. (r : Reading)
+        → byte_at r terms.new b ≡ cond (bit_at r.v terms.old is_poison) (Bits 0 (2 ^ min (width.bits - 8 * place) 8 - 1)) (Bits (term_at r.v terms.old value / 2 ^ (8 * place) % 256) 0)) }
     ensures kept { Keeps terms.old terms.new }
 {
     let part = constant(terms, 0, 3)?;
     let zero = number(terms, 0)?;
+    let is_part = truth(terms, false)?;
+    let poison = poison_mask(width, place);
+    let mask = mask_where(terms, is_poison, poison)?;
     let digits = extract(terms, value, 8 * place as u32, 8)?;
+    let number = digits_unless(terms, is_poison, poison, digits)?;
     Ok(SymByte {
-        kind,
-        number: digits,
+        is_part,
+        mask,
+        number,
         block: zero,
         offset: zero,
         part,
     })
 }
 
-/// The low bytes of a number where the kind is 0, else the same number of poison bytes.
+/// The bytes of a number of the width, or where the condition is true as many with its poison bits.
 fn number_bytes(
     alloc: Global,
     terms: &mut Terms,
-    kind: TermId,
+    is_poison: TermId,
     value: TermId,
-    count: usize,
+    width: Width,
 ) -> Result<Sequence<SymByte>, NoMemory>
-    requires kind { IsTerm terms.old 2 kind }
+    requires is_poison { IsTerm terms.old 1 is_poison }
     requires value { IsTerm terms.old 64 value }
-    requires most { count ≤ 8 }
     ensures made { IfOk result (AreSymBytes terms.new) }
-    ensures stands { IfOk result (λ bytes. (r : Reading) → (term_at r.v terms.old kind ≡ 1 → ⊥)
-        → places_at r terms.new bytes ≡ cond (nat_eq (term_at r.v terms.old kind) 0) (meant.number_bytes count (term_at r.v terms.old value)) (replicate count Poison)) }
+    ensures stands { IfOk result (λ bytes. (r : Reading)
+        → places_at r terms.new bytes ≡ cond (bit_at r.v terms.old is_poison) (meant.poison_bytes ((width.bits + 7) / 8) width.bits) (meant.number_bytes ((width.bits + 7) / 8) (term_at r.v terms.old value))) }
     ensures kept { Keeps terms.old terms.new }
 {
     let mut bytes = Vec::new(alloc);
-    for place in 0..count {
-        let byte = number_byte(terms, kind, value, place)?;
+    for place in 0..byte_count(width) {
+        let byte = number_byte(terms, is_poison, value, width, place)?;
         bytes.push(byte)?;
     }
     Ok(Sequence::from_vec(bytes))
@@ -92,13 +131,23 @@ pub fn integer_bytes(
     ensures kept { Keeps terms.old terms.new }
 {
     let is_poison = either(terms, value.poison, value.is_pointer)?;
-    let kind = kind_unless(terms, is_poison, 0)?;
-    let count = byte_count(width);
-    let bytes = number_bytes(alloc, terms, kind, value.number, count)?;
+    let bytes = number_bytes(alloc, terms, is_poison, value.number, width)?;
     Ok(bytes)
 }
 
-/// True where all bytes are numbers.
+/// True where a byte is bits of which none is poison.
+fn is_number(terms: &mut Terms, byte: SymByte) -> Result<TermId, NoMemory>
+    requires { IsSymByte terms.old byte }
+    ensures made { IfOk result (λ id. Tests terms.new id (λ v. not (bit_at v terms.old byte.is_part) && nat_eq (term_at v terms.old byte.mask) 0)) }
+    ensures kept { Keeps terms.old terms.new }
+{
+    let is_bits = negation(terms, byte.is_part)?;
+    let is_defined = has_value(terms, byte.mask, 8, 0)?;
+    let is_number = both(terms, is_bits, is_defined)?;
+    Ok(is_number)
+}
+
+/// True where all bytes are bits of which none is poison.
 fn are_numbers(terms: &mut Terms, bytes: &[SymByte]) -> Result<TermId, NoMemory>
     requires { AreSymBytes terms.old bytes.now }
     ensures made { IfOk result (IsTerm terms.new 1) }
@@ -107,7 +156,7 @@ fn are_numbers(terms: &mut Terms, bytes: &[SymByte]) -> Result<TermId, NoMemory>
 {
     let mut are_numbers = truth(terms, true)?;
     for byte in bytes {
-        let is_number = has_value(terms, byte.kind, 2, 0)?;
+        let is_number = is_number(terms, *byte)?;
         are_numbers = both(terms, are_numbers, is_number)?;
     }
     Ok(are_numbers)
@@ -122,6 +171,7 @@ fn joined(terms: &mut Terms, bytes: &[SymByte]) -> Result<TermId, NoMemory>
     ensures stands { IfOk result (λ id. (r : Reading) (a : ℕ) → meant.number_of_bytes (places_at r terms.old bytes.now) ≡ Some a → term_at r.v terms.new id ≡ a) }
     ensures kept { Keeps terms.old terms.new }
 {
+    terms.values_fit();
     let mut joined = bytes[0].number;
     for i in 1..bytes.len() {
         joined = concat(terms, bytes[i].number, joined)?;

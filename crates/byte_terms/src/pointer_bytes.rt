@@ -1,41 +1,43 @@
 //! Pointers and their parts.
 
 ghost use Rattle.std.specs.Prelude.{◌≡◌, ◌<◌, ◌&&◌, IfOk, cond, length, nat_eq, replicate};
-ghost use Rattle.byte_block.specs.declared.value.Byte.TheVariants.{Part, Poison};
+ghost use Rattle.byte_block.specs.declared.value.Byte.TheVariants.{Bits, Part};
 ghost use Rattle.memory_access.specs.declared.access_types.Access.TheVariants.{Pointer};
 ghost use Rattle.memory_access.specs.Bytes as meant;
 ghost use Rattle.bv_terms.specs.Trees.{IsTerm, Keeps, Tests, bit_at, term_at};
 ghost use Rattle.mem_terms.specs.Values.{IsNaming, IsSymValue, Reading, value_at};
 ghost use Rattle.mem_terms.specs.Memory.{AreSymBytes, IsSymByte, byte_at, places_at};
 
-use crate::byte_fields::{has_value, kind_unless};
+use crate::byte_fields::has_value;
 use bv_terms::{TermId, Terms};
-use mem_terms::{SymByte, SymValue, both, either, equals, negation, truth};
+use mem_terms::{SymByte, SymValue, both, equals, negation, truth};
 use std::alloc::Global;
 use support::{NoMemory, Sequence};
 use term_rules::constant;
 
-/// A part of a pointer, which is not a number.
+/// A part of a pointer where the condition is true, else a byte whose bits are all poison.
 fn pointer_part(
     terms: &mut Terms,
-    kind: TermId,
+    is_part: TermId,
     block: TermId,
     offset: TermId,
     place: usize,
 ) -> Result<SymByte, NoMemory>
-    requires kind { IsTerm terms.old 2 kind }
+    requires is_part { IsTerm terms.old 1 is_part }
     requires block { IsTerm terms.old 64 block }
     requires offset { IsTerm terms.old 64 offset }
     requires place { place < 8 }
     ensures made { IfOk result (IsSymByte terms.new) }
-    ensures stands { IfOk result (λ b. (r : Reading) → (term_at r.v terms.old kind ≡ 0 → ⊥)
-        → byte_at r terms.new b ≡ cond (nat_eq (term_at r.v terms.old kind) 1) (Part (record { block = r.name (term_at r.v terms.old block); offset = term_at r.v terms.old offset }) place) Poison) }
+    ensures stands { IfOk result (λ b. (r : Reading)
+        → byte_at r terms.new b ≡ cond (bit_at r.v terms.old is_part) (Part (record { block = r.name (term_at r.v terms.old block); offset = term_at r.v terms.old offset }) place) (Bits 0 255)) }
     ensures kept { Keeps terms.old terms.new }
 {
+    let mask = constant(terms, 255, 8)?;
     let number = constant(terms, 0, 8)?;
     let part = constant(terms, place as u128, 3)?;
     Ok(SymByte {
-        kind,
+        is_part,
+        mask,
         number,
         block,
         offset,
@@ -43,25 +45,25 @@ fn pointer_part(
     })
 }
 
-/// The parts of a pointer where the kind is 1, else the same number of poison bytes.
+/// The parts of a pointer where the condition is true, else as many bytes whose bits are all poison.
 fn pointer_parts(
     alloc: Global,
     terms: &mut Terms,
-    kind: TermId,
+    is_part: TermId,
     block: TermId,
     offset: TermId,
 ) -> Result<Sequence<SymByte>, NoMemory>
-    requires kind { IsTerm terms.old 2 kind }
+    requires is_part { IsTerm terms.old 1 is_part }
     requires block { IsTerm terms.old 64 block }
     requires offset { IsTerm terms.old 64 offset }
     ensures made { IfOk result (AreSymBytes terms.new) }
-    ensures stands { IfOk result (λ bytes. (r : Reading) → (term_at r.v terms.old kind ≡ 0 → ⊥)
-        → places_at r terms.new bytes ≡ cond (nat_eq (term_at r.v terms.old kind) 1) (meant.parts_from (record { block = r.name (term_at r.v terms.old block); offset = term_at r.v terms.old offset }) 0 8) (replicate 8 Poison)) }
+    ensures stands { IfOk result (λ bytes. (r : Reading)
+        → places_at r terms.new bytes ≡ cond (bit_at r.v terms.old is_part) (meant.parts_from (record { block = r.name (term_at r.v terms.old block); offset = term_at r.v terms.old offset }) 0 8) (replicate 8 (Bits 0 255))) }
     ensures kept { Keeps terms.old terms.new }
 {
     let mut bytes = Vec::new(alloc);
     for place in 0..8 {
-        let byte = pointer_part(terms, kind, block, offset, place)?;
+        let byte = pointer_part(terms, is_part, block, offset, place)?;
         bytes.push(byte)?;
     }
     Ok(Sequence::from_vec(bytes))
@@ -78,10 +80,9 @@ pub fn pointer_bytes(
     ensures stands { IfOk result (λ bytes. (r : Reading) → places_at r terms.new bytes ≡ meant.value_bytes Pointer (value_at r terms.old value)) }
     ensures kept { Keeps terms.old terms.new }
 {
-    let is_number = negation(terms, value.is_pointer)?;
-    let is_poison = either(terms, value.poison, is_number)?;
-    let kind = kind_unless(terms, is_poison, 1)?;
-    let bytes = pointer_parts(alloc, terms, kind, value.block, value.number)?;
+    let is_defined = negation(terms, value.poison)?;
+    let is_part = both(terms, is_defined, value.is_pointer)?;
+    let bytes = pointer_parts(alloc, terms, is_part, value.block, value.number)?;
     Ok(bytes)
 }
 
@@ -124,8 +125,7 @@ fn is_part(
     let same_pointer = is_same_pointer(terms, block, offset, byte)?;
     let same_place = has_value(terms, byte.part, 3, place as u128)?;
     let is_same = both(terms, same_pointer, same_place)?;
-    let is_pointer = has_value(terms, byte.kind, 2, 1)?;
-    let is_part = both(terms, is_pointer, is_same)?;
+    let is_part = both(terms, byte.is_part, is_same)?;
     Ok(is_part)
 }
 

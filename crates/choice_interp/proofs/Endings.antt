@@ -5,6 +5,8 @@ use Rattle.byte_block.specs.declared.value.Byte.{Byte}
 use Rattle.byte_block.specs.declared.value.Byte.TheVariants as byte
 use Rattle.points.specs.Refines.{same_pointer, byte_allows, block_allows, blocks_allow}
 use Rattle.points.proofs.Allowed.{pairs_pass-same}
+use Rattle.memory_access.specs.Bytes.{defined_bits}
+use Rattle.memory_access.proofs.Masks.{defined-own}
 use Rattle.choice_interp.specs.Ran.{run_with}
 
 equal_names-same : (b : BlockName) → equal_names b b ≡ true
@@ -18,8 +20,7 @@ same_pointer-same (Given i) n = rw (eq-eqb i i refl, eq-eqb n n refl) refl
 same_pointer-same (Local t i) n = refl
 
 byte_allows-same : (b : Byte) → byte_allows b b ≡ true
-byte_allows-same byte.Poison = refl
-byte_allows-same (byte.Num n) = eq-eqb n n refl
+byte_allows-same (byte.Bits n m) = rw (defined-own m, eq-eqb (defined_bits n m) (defined_bits n m) refl) refl
 byte_allows-same (byte.Part p i) = rw (same_pointer-same p.block p.offset, eq-eqb i i refl) refl
 
 block_allows-same : (b : MemoryBlock) → block_allows b b ≡ true

@@ -1,5 +1,5 @@
 -- What is made of the terms of an argument or of a given block denotes what they say.
-use Rattle.std.proofs.Common.{ℕ, zero, suc, ◌≡◌, ◌+◌, ◌<◌, ◌≤◌, ◌%◌, ◌^◌, Bool, true, false, cond, List, [], ◌∷◌, ◌++◌, length, map, take, get_or, slice_get, Some, refl, ap, sym, ◌∙◌, subst, arith, length-append}
+use Rattle.std.proofs.Common.{ℕ, zero, suc, ◌≡◌, ◌+◌, ◌<◌, ◌≤◌, ◌%◌, ◌^◌, Bool, true, false, cond, nat_eq, List, [], ◌∷◌, ◌++◌, length, map, take, get_or, slice_get, Some, refl, ap, sym, ◌∙◌, subst, arith, length-append}
 use Rattle.std.proofs.lemmas.List.{length-take-le, take_all}
 use Rattle.std.proofs.lemmas.Option.{get_or_from_slice_get}
 use Rattle.byte_block.specs.declared.value.Byte.{Byte}
@@ -47,11 +47,24 @@ ptr_arg-stands old a new type.Ptr flag block offset id is_pointer range h k m k'
     rw (t.says r.v, bit-later old new whole r.v flag h.0.within, term-later a new k' r.v id m.within, m.says r.v, in_64 old 3 block range h.1 (omega arith) r.v, term-later old new whole r.v offset h.2.within) refl
 
 -- a byte of a given block
-pub given_byte-stands : (old new : List Term) (b : ByteTerms) (block : TermId) → AreInRange old → IsByteTerms old b → Keeps old new → Makes new block 64 (λ v. term_at v old b.block % 2 ^ 64)
-    → (r : Reading) → byte_at r new (record { kind = b.kind; number = b.number; block = block; offset = b.offset; part = b.part }) ≡ given_byte_at r old b
+pub given_byte-stands : (old a b new : List Term) (g : ByteTerms) (block one is_part : TermId) → AreInRange old → IsByteTerms old g → Keeps old a → Makes a block 64 (λ v. term_at v old g.block % 2 ^ 64) → Keeps a b
+    → Makes b one 2 (λ _. 1) → Keeps b new → Tests new is_part (λ v. nat_eq (term_at v b g.kind) (term_at v b one))
+    → (r : Reading) → byte_at r new (record { is_part = is_part; mask = g.mask; number = g.number; block = block; offset = g.offset; part = g.part }) ≡ given_byte_at r old g
 unfolding byte_at given_byte_at
-given_byte-stands old new b block range h k m r =
-    rw (m.says r.v, in_64 old 3 b.block range h.block (omega arith) r.v, term-later old new k r.v b.kind h.kind.within, term-later old new k r.v b.number h.number.within, term-later old new k r.v b.offset h.offset.within, term-later old new k r.v b.part h.part.within) refl
+given_byte-stands old a b new g block one is_part range h ka m kb mo kn t r =
+    let whole = keeps_trans old a new ka (keeps_trans a b new kb kn) in
+    rw (
+      t.says r.v,
+      mo.says r.v,
+      term-later old b (keeps_trans old a b ka kb) r.v g.kind h.kind.within,
+      term-later a new (keeps_trans a b new kb kn) r.v block m.within,
+      m.says r.v,
+      in_64 old 3 g.block range h.block (omega arith) r.v,
+      term-later old new whole r.v g.mask h.mask.within,
+      term-later old new whole r.v g.number h.number.within,
+      term-later old new whole r.v g.offset h.offset.within,
+      term-later old new whole r.v g.part h.part.within,
+    ) refl
 
 -- the bytes so far are the first of the contents
 pub record BytesSoFar (old new : List Term) (places : List ByteTerms) (i : ℕ) (bytes : List SymByte) : Type 0 where

@@ -90,7 +90,8 @@ module _ (old new : List Term) (k : Keeps old new) where
 
   pub sym_byte-later : (b : SymByte) → IsSymByte old b → IsSymByte new b
   sym_byte-later b h = record {
-    kind = is_term-later 2 b.kind h.kind;
+    is_part = is_term-later 1 b.is_part h.is_part;
+    mask = is_term-later 8 b.mask h.mask;
     number = is_term-later 8 b.number h.number;
     block = is_term-later 64 b.block h.block;
     offset = is_term-later 64 b.offset h.offset;
@@ -103,7 +104,7 @@ module _ (old new : List Term) (k : Keeps old new) where
   pub byte-later : (r : Reading) (b : SymByte) → IsSymByte old b → byte_at r new b ≡ byte_at r old b
   unfolding byte_at
   byte-later r b h =
-      rw (term-later r.v b.kind h.kind.within, term-later r.v b.number h.number.within, term-later r.v b.block h.block.within, term-later r.v b.offset h.offset.within, term-later r.v b.part h.part.within) refl
+      rw (bit-later r.v b.is_part h.is_part.within, term-later r.v b.mask h.mask.within, term-later r.v b.number h.number.within, term-later r.v b.block h.block.within, term-later r.v b.offset h.offset.within, term-later r.v b.part h.part.within) refl
 
   pub places-later : (r : Reading) (bs : List SymByte) → AreSymBytes old bs → places_at r new bs ≡ places_at r old bs
   places-later r bs h = map-same (IsSymByte old) (byte_at r new) (byte_at r old) bs (byte-later r) h
@@ -168,6 +169,7 @@ module _ (old new : List Term) (k : Keeps old new) where
   pub byte_terms-later : (b : ByteTerms) → IsByteTerms old b → IsByteTerms new b
   byte_terms-later b h = record {
     kind = is_term-later 2 b.kind h.kind;
+    mask = is_term-later 8 b.mask h.mask;
     number = is_term-later 8 b.number h.number;
     block = is_term-later 3 b.block h.block;
     offset = is_term-later 64 b.offset h.offset;
@@ -201,7 +203,7 @@ module _ (old new : List Term) (k : Keeps old new) where
   pub given_byte_at-later : (r : Reading) (b : ByteTerms) → IsByteTerms old b → given_byte_at r new b ≡ given_byte_at r old b
   unfolding given_byte_at
   given_byte_at-later r b h =
-      rw (term-later r.v b.kind h.kind.within, term-later r.v b.number h.number.within, term-later r.v b.block h.block.within, term-later r.v b.offset h.offset.within, term-later r.v b.part h.part.within) refl
+      rw (term-later r.v b.kind h.kind.within, term-later r.v b.mask h.mask.within, term-later r.v b.number h.number.within, term-later r.v b.block h.block.within, term-later r.v b.offset h.offset.within, term-later r.v b.part h.part.within) refl
 
   pub given_bytes_at-later : (r : Reading) (bs : List ByteTerms) → Each (IsByteTerms old) bs → map (given_byte_at r new) bs ≡ map (given_byte_at r old) bs
   given_bytes_at-later r bs h = map-same (IsByteTerms old) (given_byte_at r new) (given_byte_at r old) bs (given_byte_at-later r) h

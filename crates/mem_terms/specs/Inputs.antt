@@ -1,5 +1,5 @@
 -- What the terms of an input and of a tape denote under an assignment of the variables.
-use Rattle.std.specs.Prelude.{◌≡◌, ℕ, ◌+◌, true, List, [], ◌∷◌, length, map}
+use Rattle.std.specs.Prelude.{◌≡◌, ℕ, ◌+◌, true, nat_eq, List, [], ◌∷◌, length, map}
 use Rattle.ir_tree.specs.declared.tree.IrType.{IrType}
 use Rattle.ir_tree.specs.declared.tree.IrType.TheVariants as type
 use Rattle.ir_tree.specs.declared.tree.Parameter.{Parameter}
@@ -42,8 +42,9 @@ AreArgs terms (p ∷ ps) [] = ⊥
 
 -- ---- given blocks
 
+-- the kind 1 is a part of a pointer, and any other is bits
 unfoldable pub given_byte_at : Reading → List Term → ByteTerms → Byte
-given_byte_at r terms b = byte_of (term_at r.v terms b.kind) (term_at r.v terms b.number) (record { block = r.name (term_at r.v terms b.block); offset = term_at r.v terms b.offset }) (term_at r.v terms b.part)
+given_byte_at r terms b = byte_of (nat_eq (term_at r.v terms b.kind) 1) (term_at r.v terms b.mask) (term_at r.v terms b.number) (record { block = r.name (term_at r.v terms b.block); offset = term_at r.v terms b.offset }) (term_at r.v terms b.part)
 
 abbrev pub given_block_at : Reading → List Term → (number : ℕ) → TermId → List ByteTerms → MemoryBlock
 given_block_at r terms number size places = record { name = r.name number; size = term_at r.v terms size; align = 16; places = map (given_byte_at r terms) places }
@@ -56,9 +57,10 @@ given_blocks_at r terms number _ _ = []
 abbrev pub input_at : Reading → List Term → InputTerms → Input
 input_at r terms input = record { args = args_at r terms input.args; blocks = given_blocks_at r terms 1 input.sizes input.places }
 
--- a byte has a kind below 4, a number below 256, a block below 8, an offset, and one of eight parts
+-- a byte has a kind below 4, a mask and a number below 256, a block below 8, an offset, and one of eight parts
 pub record IsByteTerms (terms : List Term) (b : ByteTerms) : Type 0 where
   pub kind : IsTerm terms 2 b.kind
+  pub mask : IsTerm terms 8 b.mask
   pub number : IsTerm terms 8 b.number
   pub block : IsTerm terms 3 b.block
   pub offset : IsTerm terms 64 b.offset

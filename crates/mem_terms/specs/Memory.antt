@@ -1,9 +1,10 @@
 -- What symbolic memory denotes under an assignment of the variables.
-use Rattle.std.specs.Prelude.{◌≡◌, ℕ, zero, suc, ◌+◌, ◌<◌, true, cond, nat_eq, List, [], ◌∷◌, length, map}
+use Rattle.std.specs.Prelude.{◌≡◌, ℕ, zero, suc, ◌+◌, ◌<◌, true, Bool, cond, List, [], ◌∷◌, length, map}
 use Rattle.byte_block.specs.declared.value.Ptr.{Ptr}
 use Rattle.byte_block.specs.declared.value.Byte.{Byte}
-use Rattle.byte_block.specs.declared.value.Byte.TheVariants.{Num, Part, Poison}
+use Rattle.byte_block.specs.declared.value.Byte.TheVariants.{Bits, Part}
 use Rattle.byte_block.specs.declared.block.MemoryBlock.{MemoryBlock}
+use Rattle.memory_access.specs.Bytes.{defined_bits}
 use Rattle.points.specs.declared.point.Layout.{Layout}
 use Rattle.bv_terms.specs.declared.term.Term.{Term}
 use Rattle.bv_terms.specs.Trees.{IsTerm, bit_at, term_at}
@@ -13,18 +14,19 @@ use Rattle.mem_terms.specs.Values.{Each, Reading}
 
 -- ---- bytes
 
--- kind 0 is a number, kind 1 a part of a pointer, and any other poison
-abbrev pub byte_of : (kind number : ℕ) → Ptr → (part : ℕ) → Byte
-byte_of kind number pointer part = cond (nat_eq kind 0) (Num number) (cond (nat_eq kind 1) (Part pointer part) Poison)
+-- a part of a pointer, or bits: what the number has in a bit of the mask has no meaning
+abbrev pub byte_of : (is_part : Bool) → (mask number : ℕ) → Ptr → (part : ℕ) → Byte
+byte_of is_part mask number pointer part = cond is_part (Part pointer part) (Bits (defined_bits number mask) mask)
 
 unfoldable pub byte_at : Reading → List Term → SymByte → Byte
-byte_at r terms b = byte_of (term_at r.v terms b.kind) (term_at r.v terms b.number) (record { block = r.name (term_at r.v terms b.block); offset = term_at r.v terms b.offset }) (term_at r.v terms b.part)
+byte_at r terms b = byte_of (bit_at r.v terms b.is_part) (term_at r.v terms b.mask) (term_at r.v terms b.number) (record { block = r.name (term_at r.v terms b.block); offset = term_at r.v terms b.offset }) (term_at r.v terms b.part)
 
 abbrev pub places_at : Reading → List Term → List SymByte → List Byte
 places_at r terms places = map (byte_at r terms) places
 
 pub record IsSymByte (terms : List Term) (b : SymByte) : Type 0 where
-  pub kind : IsTerm terms 2 b.kind
+  pub is_part : IsTerm terms 1 b.is_part
+  pub mask : IsTerm terms 8 b.mask
   pub number : IsTerm terms 8 b.number
   pub block : IsTerm terms 64 b.block
   pub offset : IsTerm terms 64 b.offset

@@ -10,13 +10,14 @@ ghost use Rattle.mem_terms.specs.Inputs.{IsArg, IsBlockTerms, IsByteTerms, arg_a
 use crate::blocks::SymBlock;
 use crate::bytes::{SymByte, pick_byte};
 use crate::inputs::{ArgTerms, ByteTerms, InputTerms};
-use crate::numbers::{number, pick, resize};
+use crate::numbers::{equals, number, pick, resize};
 use crate::truths::truth;
 use crate::values::SymValue;
 use bv_terms::{TermId, Terms};
 use ir_tree::IrType;
 use std::alloc::Global;
 use support::{NoMemory, Sequence};
+use term_rules::constant;
 
 /// The alignment of a given block in bytes.
 const GIVEN_ALIGN: u64 = 16;
@@ -67,8 +68,11 @@ fn given_byte(terms: &mut Terms, b: ByteTerms) -> Result<SymByte, NoMemory>
 {
     terms.values_fit();
     let block = resize(terms, b.block, 64)?;
+    let part_kind = constant(terms, 1, 2)?;
+    let is_part = equals(terms, b.kind, part_kind)?;
     Ok(SymByte {
-        kind: b.kind,
+        is_part,
+        mask: b.mask,
         number: b.number,
         block,
         offset: b.offset,

@@ -18,10 +18,11 @@ pub enum ArgTerms {
     },
 }
 
-/// The five numbers of a byte of a given block: kind, number, block, offset and part.
+/// The six numbers of a byte of a given block: kind, mask, number, block, offset and part.
 #[derive(Clone, Copy, Debug, PartialEq, Eq)]
 pub struct ByteTerms {
     pub kind: TermId,
+    pub mask: TermId,
     pub number: TermId,
     pub block: TermId,
     pub offset: TermId,

@@ -16,7 +16,7 @@ pub use Rattle.byte_block.specs.declared.block.MemoryBlock.{MemoryBlock}
 pub use Rattle.byte_block.specs.declared.value.BlockName.{BlockName}
 pub use Rattle.byte_block.specs.declared.value.BlockName.TheVariants.{Null, Given, Local}
 pub use Rattle.byte_block.specs.declared.value.Byte.{Byte}
-pub use Rattle.byte_block.specs.declared.value.Byte.TheVariants.{Num, Part, Poison}
+pub use Rattle.byte_block.specs.declared.value.Byte.TheVariants.{Bits, Part}
 pub use Rattle.byte_block.specs.declared.value.Ptr.{Ptr}
 pub use Rattle.byte_block.specs.declared.value.Value.{Value}
 unfoldable pub use Rattle.tv_num.specs.Width.{wrapped, signed_of}
@@ -25,7 +25,7 @@ pub use Rattle.memory_access.specs.Accesses.{admits, is_defined, load_result, ov
 unfoldable pub use Rattle.memory_access.specs.Accesses.{first_changed}
 pub use Rattle.memory_access.specs.Blocks.{equal_names, names, block_bytes, bytes_or_none, bytes_named}
 pub use Rattle.memory_access.specs.Bytes.{access_size, value_bytes, value_of_bytes, is_part_of, number_or_poison, pointer_or_poison}
-unfoldable pub use Rattle.memory_access.specs.Bytes.{number_bytes, parts_from, number_of_bytes, are_parts}
+unfoldable pub use Rattle.memory_access.specs.Bytes.{number_bytes, poison_bytes, parts_from, number_of_bytes, are_parts}
 pub use Rattle.memory_access.specs.Laws.{Fits, IsElsewhere, frame_of, IsZero, IsByte}
 pub use Rattle.memory_access.specs.Offsets.{scaled, last_sum, is_outside, leaves_block, is_index, signed_number, signed_index, is_nonzero, is_negative, gep_result}
 unfoldable pub use Rattle.memory_access.specs.Offsets.{partial_sums}

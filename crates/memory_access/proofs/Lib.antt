@@ -1,4 +1,5 @@
 pub mod Common
+pub mod Masks
 pub mod Found
 pub mod ByteLists
 pub mod Sums

@@ -1,5 +1,5 @@
 -- Values and their bytes are inverse to each other.
-use Rattle.memory_access.proofs.Common.{◌≡◌, ℕ, zero, suc, ◌+◌, ◌*◌, ◌/◌, ◌%◌, ◌^◌, ◌<◌, ◌≤◌, true, nat_eq, List, [], ◌∷◌, length, replicate, Option, Some, None, refl, sym, ap, ap₂, ◌∙◌, arith, All, nat_tests, length-replicate, All-head, All-tail, pow-add, pow-suc, pow-le-pow_right, mod-add-div, add-mul-mod_self_left, div-lt_iff_lt-mul, mod-eq_of_lt, BlockName, Null, Given, Local, Ptr, Value, Byte, Num, Part, Poison, Access, Int, Pointer, equal_names, access_size, number_bytes, parts_from, number_of_bytes, number_or_poison, is_part_of, are_parts, pointer_or_poison, value_bytes, value_of_bytes, IsByte, Fits}
+use Rattle.memory_access.proofs.Common.{◌≡◌, ℕ, zero, suc, ◌+◌, ◌*◌, ◌/◌, ◌%◌, ◌^◌, ◌<◌, ◌≤◌, true, nat_eq, List, [], ◌∷◌, length, Option, Some, None, refl, sym, ap, ap₂, ◌∙◌, arith, All, nat_tests, All-head, All-tail, pow-add, pow-suc, pow-le-pow_right, mod-add-div, add-mul-mod_self_left, div-lt_iff_lt-mul, mod-eq_of_lt, BlockName, Null, Given, Local, min, ◌-◌, Ptr, Value, Byte, Bits, Part, Access, Int, Pointer, equal_names, access_size, number_bytes, poison_bytes, parts_from, number_of_bytes, number_or_poison, is_part_of, are_parts, pointer_or_poison, value_bytes, value_of_bytes, IsByte, Fits}
 use Rattle.std.specs.Option.{option_map}
 use Rattle.byte_block.specs.declared.value.Value.TheVariants as value
 
@@ -15,12 +15,17 @@ unfolding parts_from
 length-parts_from p i zero = refl
 length-parts_from p i (suc n) = ap suc (length-parts_from p (i + 1) n)
 
+length-poison_bytes : (n w : ℕ) → length (poison_bytes n w) ≡ n
+unfolding poison_bytes
+length-poison_bytes zero w = refl
+length-poison_bytes (suc n) w = ap suc (length-poison_bytes n (w - 8))
+
 pub length-value_bytes : (access : Access) (v : Value) → length (value_bytes access v) ≡ access_size access
 length-value_bytes (Int w) (value.Num a) = length-number_bytes (access_size (Int w)) a
-length-value_bytes (Int w) value.Poison = length-replicate (access_size (Int w)) Poison
-length-value_bytes (Int w) (value.Ptr p) = length-replicate (access_size (Int w)) Poison
-length-value_bytes Pointer (value.Num a) = length-replicate 8 Poison
-length-value_bytes Pointer value.Poison = length-replicate 8 Poison
+length-value_bytes (Int w) value.Poison = length-poison_bytes (access_size (Int w)) w.bits
+length-value_bytes (Int w) (value.Ptr p) = length-poison_bytes (access_size (Int w)) w.bits
+length-value_bytes Pointer (value.Num a) = length-poison_bytes 8 64
+length-value_bytes Pointer value.Poison = length-poison_bytes 8 64
 length-value_bytes Pointer (value.Ptr p) = length-parts_from p 0 8
 
 -- ---- numbers
@@ -55,15 +60,15 @@ high-bytes b m small = omega (arith, small)
 pub number_bytes-number_of : (bytes : List Byte) (a : ℕ) → All IsByte bytes → number_of_bytes bytes ≡ Some a → number_bytes (length bytes) a ≡ bytes
 unfolding number_of_bytes number_bytes
 number_bytes-number_of [] a fit e = refl
-number_bytes-number_of (Num b ∷ bytes) a fit e =
+number_bytes-number_of (Bits b zero ∷ bytes) a fit e =
     let s = splits-by b bytes a (number_of_bytes bytes) refl e in
-    let small : b < 256 = All-head IsByte (Num b) bytes fit in
-    let rest = number_bytes-number_of bytes s.rest (All-tail IsByte (Num b) bytes fit) s.number in
+    let small : b < 256 = All-head IsByte (Bits b 0) bytes fit in
+    let rest = number_bytes-number_of bytes s.rest (All-tail IsByte (Bits b 0) bytes fit) s.number in
     let low : a % 256 ≡ b = ap (λ n. n % 256) s.is ∙ low-byte b s.rest small in
     let high : a / 256 ≡ s.rest = ap (λ n. n / 256) s.is ∙ high-bytes b s.rest small in
-    ap₂ (λ x ys. Num x ∷ ys) low (ap (number_bytes (length bytes)) high ∙ rest)
+    ap₂ (λ x ys. Bits x 0 ∷ ys) low (ap (number_bytes (length bytes)) high ∙ rest)
 number_bytes-number_of (Part p i ∷ bytes) a fit e = absurd (cc)
-number_bytes-number_of (Poison ∷ bytes) a fit e = absurd (cc)
+number_bytes-number_of (Bits b (suc m) ∷ bytes) a fit e = absurd (cc)
 
 -- ---- pointers
 
@@ -104,18 +109,31 @@ number-fits w a small =
 number_or_poison-fits : (w a : ℕ) → a < 2 ^ w → number_or_poison w (Some a) ≡ value.Num a
 number_or_poison-fits w a small = grind (arith, nat_tests)
 
-number_of-poison : (n : ℕ) → 0 < n → number_of_bytes (replicate n Poison) ≡ None
+number_of-some : (b m : ℕ) (bytes : List Byte) → 0 < m → number_of_bytes (Bits b m ∷ bytes) ≡ None
 unfolding number_of_bytes
-number_of-poison zero some = absurd (omega arith)
-number_of-poison (suc n) some = refl
+number_of-some b zero bytes some = absurd (omega arith)
+number_of-some b (suc m) bytes some = refl
+
+-- a mask of one bit or more isn't 0
+some-mask : (k : ℕ) → 1 ≤ k → 0 < 2 ^ k - 1
+some-mask k some = let least : 2 ^ 1 ≤ 2 ^ k = pow-le-pow_right (let h : 0 < 2 = omega arith in h) some in omega (arith, least)
+
+number_of-poison : (n w : ℕ) → 0 < n → 1 ≤ w → number_of_bytes (poison_bytes n w) ≡ None
+unfolding poison_bytes
+number_of-poison zero w some bits = absurd (omega arith)
+number_of-poison (suc n) w some bits = number_of-some 0 (2 ^ min w 8 - 1) (poison_bytes n (w - 8)) (some-mask (min w 8) (omega arith))
 
 some-bytes : (w : ℕ) → 1 ≤ w → 0 < (w + 7) / 8
 some-bytes w some = omega arith
 
+pointer-poison : pointer_or_poison (poison_bytes 8 64) ≡ value.Poison
+unfolding poison_bytes
+pointer-poison = refl
+
 pub value_of_bytes-value_bytes : (access : Access) (v : Value) → Fits access v → value_of_bytes access (value_bytes access v) ≡ v
 value_of_bytes-value_bytes (Int w) (value.Num a) fits = ap (number_or_poison w.bits) (number_of-number_bytes (access_size (Int w)) a (number-fits w.bits a fits)) ∙ number_or_poison-fits w.bits a fits
-value_of_bytes-value_bytes (Int w) value.Poison fits = ap (number_or_poison w.bits) (number_of-poison (access_size (Int w)) (some-bytes w.bits w.at_least_1))
+value_of_bytes-value_bytes (Int w) value.Poison fits = ap (number_or_poison w.bits) (number_of-poison (access_size (Int w)) w.bits (some-bytes w.bits w.at_least_1) w.at_least_1)
 value_of_bytes-value_bytes (Int w) (value.Ptr p) fits = absurd fits
 value_of_bytes-value_bytes Pointer (value.Num a) fits = absurd fits
-value_of_bytes-value_bytes Pointer value.Poison fits = refl
+value_of_bytes-value_bytes Pointer value.Poison fits = pointer-poison
 value_of_bytes-value_bytes Pointer (value.Ptr p) fits = pointer-whole p

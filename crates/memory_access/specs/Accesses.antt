@@ -76,7 +76,7 @@ after_store memory value access at align =
 -- a block whose bytes are poison
 abbrev pub poison_block : BlockName → ℕ → ℕ → MemoryBlock
 poison_block name size align =
-    record { name = name; size = size; align = align; places = replicate size byte.Poison }
+    record { name = name; size = size; align = align; places = replicate size (byte.Bits 0 255) }
 
 -- one more block, after the others
 abbrev pub after_alloca : List MemoryBlock → BlockName → ℕ → ℕ → List MemoryBlock

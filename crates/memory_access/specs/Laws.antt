@@ -24,7 +24,7 @@ abbrev pub BytesHoldNumbers : Type 0
 BytesHoldNumbers = (n a : ℕ) → a < 256 ^ n → number_of_bytes (number_bytes n a) ≡ Some a
 
 abbrev pub IsByte : Byte → Type 0
-IsByte (byte.Num b) = b < 256
+IsByte (byte.Bits b m) = b < 256
 IsByte _ = Unit {0}
 
 -- bytes that are numbers are the bytes of their number

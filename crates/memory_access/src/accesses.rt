@@ -102,7 +102,11 @@ pub fn alloca(
     ensures ok { OnOk result (memory.new ≡ after_alloca memory.old name size align) }
     ensures err { OnErr result (memory.new ≡ memory.old) }
 {
-    let places = Sequence::from_vec(vec![in alloc; Byte::Poison; size as usize]?);
+    let poison = Byte::Bits {
+        number: 0,
+        mask: u8::MAX,
+    };
+    let places = Sequence::from_vec(vec![in alloc; poison; size as usize]?);
     memory.push(MemoryBlock {
         name,
         size,

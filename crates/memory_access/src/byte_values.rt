@@ -1,5 +1,5 @@
-ghost use Rattle.std.specs.Prelude.{◌≡◌, ◌<◌, ◌≤◌, ◌*◌, ◌/◌, ◌%◌, ◌^◌, length, slice_get};
-ghost use Rattle.memory_access.specs.Bytes.{access_size, value_bytes, number_of_bytes, number_or_poison, are_parts, is_part_of, pointer_or_poison, value_of_bytes};
+ghost use Rattle.std.specs.Prelude.{◌≡◌, ◌<◌, ◌≤◌, ◌-◌, ◌*◌, ◌/◌, ◌%◌, ◌^◌, length, min, slice_get};
+ghost use Rattle.memory_access.specs.Bytes.{access_size, defined_bits, value_bytes, number_of_bytes, number_or_poison, are_parts, is_part_of, pointer_or_poison, value_of_bytes};
 
 use crate::access_types::Access;
 use crate::blocks::is_equal_pointer;
@@ -25,6 +25,23 @@ fn number_byte(number: u64, k: usize) -> u8
     (number >> (8 * k) & 255) as u8
 }
 
+/// The byte at an index of those whose low bits, this many, are poison.
+fn poison_byte(bits: usize, k: usize) -> Byte
+    requires { k < 8 }
+    ensures { result ≡ Byte.Bits 0 (2 ^ min (bits - 8 * k) 8 - 1) }
+{
+    let above = bits.saturating_sub(8 * k);
+    let mask = if above < 8 { (1 << above) - 1 } else { u8::MAX };
+    Byte::Bits { number: 0, mask }
+}
+
+/// The bits of a byte's number that are not in the mask.
+pub fn defined_bits(number: u8, mask: u8) -> u8
+    ensures { result ≡ defined_bits number mask }
+{
+    number & (u8::MAX - mask)
+}
+
 /// The byte at an index of those that a value is stored as. A value of the other kind is stored as
 /// poison.
 pub fn byte_of(value: Value, access: Access, k: usize) -> Byte
@@ -32,18 +49,22 @@ pub fn byte_of(value: Value, access: Access, k: usize) -> Byte
     ensures { slice_get (value_bytes access value) k ≡ Some result }
 {
     match access {
-        Access::Int(_) => match value {
-            Value::Num(number) => Byte::Num(number_byte(number, k)),
-            Value::Poison | Value::Ptr(_) => Byte::Poison,
+        Access::Int(width) => match value {
+            Value::Num(number) => Byte::Bits {
+                number: number_byte(number, k),
+                mask: 0,
+            },
+            Value::Poison | Value::Ptr(_) => poison_byte(width.bits() as usize, k),
         },
         Access::Pointer => match value {
             Value::Ptr(pointer) => Byte::Part(pointer, k as u8),
-            Value::Num(_) | Value::Poison => Byte::Poison,
+            Value::Num(_) | Value::Poison => poison_byte(64, k),
         },
     }
 }
 
-/// The number whose bytes these are, the least significant first, if all are numbers.
+/// The number whose bytes these are, the least significant first, if none is a part of a pointer or
+/// has a bit that is poison.
 #[tactic(auto, unfolding(crate::specs::Bytes::number_of_bytes))]
 fn number_in(bytes: &[Byte]) -> Option<u64>
     requires { length bytes.now ≤ 8 }
@@ -52,8 +73,13 @@ fn number_in(bytes: &[Byte]) -> Option<u64>
     let mut number = 0u64;
     for i in (0..bytes.len()).rev() {
         match bytes[i] {
-            Byte::Num(byte) => number = byte as u64 + 256 * number,
-            Byte::Part(..) | Byte::Poison => return None,
+            Byte::Bits { number: byte, mask } => {
+                if mask != 0 {
+                    return None;
+                }
+                number = byte as u64 + 256 * number;
+            }
+            Byte::Part(..) => return None,
         }
     }
     Some(number)
@@ -88,7 +114,7 @@ fn is_part(pointer: Ptr, number: usize, byte: Byte) -> bool
 {
     match byte {
         Byte::Part(other, part) => is_equal_pointer(pointer, other) && part as usize == number,
-        Byte::Num(_) | Byte::Poison => false,
+        Byte::Bits { .. } => false,
     }
 }
 
@@ -107,7 +133,7 @@ fn pointer_in(bytes: &[Byte]) -> Value
                 Value::Poison
             }
         }
-        Byte::Num(_) | Byte::Poison => Value::Poison,
+        Byte::Bits { .. } => Value::Poison,
     }
 }
 

@@ -18,6 +18,7 @@ mod offsets;
 pub use access_types::{Access, Loaded, Stored};
 pub use accesses::{alloca, load, store};
 pub use blocks::{bytes_in, is_equal_name};
+pub use byte_values::defined_bits;
 pub use laws::{
     bytes_hold_numbers, bytes_hold_values, loads_give_stores, numbers_hold_bytes,
     stores_keep_frames, stores_keep_others, zeros_stay,

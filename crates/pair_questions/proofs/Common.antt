@@ -5,7 +5,7 @@ pub use Rattle.std.proofs.lemmas.List.{drop_all, get_or-map, get_or_push, get_or
 pub use Rattle.std.proofs.lemmas.List.Elements.{All-contains, Contains-append_left, Contains-get_or, Contains-push, Contains-push_cases}
 pub use Rattle.std.proofs.lemmas.Option.{get_or_from_slice_get, slice_get_within}
 pub use Rattle.std.specs.List.{flat_map}
-pub use Rattle.std.specs.Prelude.{slice_index, None, IfSome, nat_eq}
+pub use Rattle.std.specs.Prelude.{slice_index, None, IfSome, nat_eq, if◌then◌else◌}
 pub use Rattle.answer_order.proofs.Binary.{fits-numbers}
 pub use Rattle.answer_order.specs.Fronts.{AreWidths, Fits, IsLeast, NonePass, numbers_of, total}
 pub use Rattle.bv_terms.specs.Tree.{Tree, width_of, truth}
@@ -38,6 +38,8 @@ pub use Rattle.mem_terms.specs.declared.inputs.ByteTerms.{ByteTerms}
 pub use Rattle.mem_terms.specs.declared.inputs.InputTerms.{InputTerms}
 pub use Rattle.mem_terms.specs.declared.inputs.TapeTerms.{TapeTerms}
 pub use Rattle.mem_terms.specs.declared.outcome.OutcomeTerms.{OutcomeTerms}
+pub use Rattle.memory_access.proofs.Masks.{defined-apart}
+pub use Rattle.memory_access.specs.Bytes.{defined_bits}
 pub use Rattle.pair_costs.specs.Small.{AreSmall}
 pub use Rattle.points.proofs.Decoded.{codes_tell_points}
 pub use Rattle.points.proofs.Same.{blocks_count, sizes_of}

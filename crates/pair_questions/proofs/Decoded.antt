@@ -1,5 +1,6 @@
 -- Numbers that are the code of a point give its input and its tape back.
-use Rattle.pair_questions.proofs.Common.{ℕ, ◌≡◌, ◌+◌, ◌≤◌, true, List, [], ◌∷◌, ◌++◌, length, map, refl, ap, sym, ◌∙◌, arith, append_assoc, flat_map, map-append, IrType, Parameter, BlockName, Null, Given, Local, Ptr, Value, Byte, MemoryBlock, Layout, Input, Point, Shape, BlockFits, PointerFits, ValueFits, ArgsFit, ByteFits, BytesFit, BlocksFit, IsOfShape, name_digit, value_code, args_code, byte_code, places_code, blocks_code, code_of, blocks_count, sizes_of, TermId, Term, truth, term_at, ArgTerms, ByteTerms, InputTerms, TapeTerms, Each, block_name, reading, value_from, value_of, byte_of, IsArg, AreArgs, IsBlockTerms, arg_at, args_at, given_block_at, given_blocks_at, given_byte_at, input_at, words_at, map-length, given_named, IsInputOf, arg_numbers, byte_numbers, block_numbers, numbers_at, arg_ids, byte_ids, input_ids}
+use Rattle.pair_questions.proofs.Common.{ℕ, zero, suc, ◌≡◌, ◌+◌, ◌≤◌, true, false, nat_eq, if◌then◌else◌, List, [], ◌∷◌, ◌++◌, length, map, refl, ap, sym, ◌∙◌, arith, append_assoc, flat_map, map-append, IrType, Parameter, BlockName, Null, Given, Local, Ptr, Value, Byte, MemoryBlock, Layout, Input, Point, Shape, BlockFits, PointerFits, ValueFits, ArgsFit, ByteFits, BytesFit, BlocksFit, IsOfShape, name_digit, value_code, args_code, byte_code, places_code, blocks_code, code_of, blocks_count, sizes_of, TermId, Term, truth, term_at, ArgTerms, ByteTerms, InputTerms, TapeTerms, Each, block_name, reading, value_from, value_of, byte_of, IsArg, AreArgs, IsBlockTerms, arg_at, args_at, given_block_at, given_blocks_at, given_byte_at, input_at, words_at, defined-apart, map-length, given_named, IsInputOf, arg_numbers, byte_numbers, block_numbers, numbers_at, arg_ids, byte_ids, input_ids}
+use Rattle.std.proofs.Math.Dec.{eqb-suc-zero}
 use Rattle.ir_tree.specs.declared.tree.IrType.TheVariants as type
 use Rattle.ir_tree.specs.Pointers.{IsInteger}
 use Rattle.byte_block.specs.declared.value.Value.TheVariants as value
@@ -96,14 +97,19 @@ module _ (v : ℕ → ℕ → ℕ) (terms : List Term) (layout : Layout) where
 two : {A B C : Type 0} (f : A → B → C) {x x' : A} {y y' : B} → x ≡ x' → y ≡ y' → f x y ≡ f x' y'
 two f e g = cc
 
-byte_decoded : (layout : Layout) (b : Byte) (kind number block offset part : ℕ) (rest others : List ℕ) → ByteFits layout b → (byte_code layout b ++ rest) ≡ (kind ∷ number ∷ block ∷ offset ∷ part ∷ others)
-    → Reads b (byte_of kind number (record { block = block_name layout.blocks block; offset = offset }) part) rest others
-byte_decoded layout (byte.Num n) kind number block offset part rest others h e =
-    let k : kind ≡ 0 = cc in
-    let m : number ≡ n = cc in
+not_part : (m : ℕ) → nat_eq (if nat_eq m 0 then 0 else 2) 1 ≡ false
+not_part zero = refl
+not_part (suc m) = rw (eqb-suc-zero m) refl
+
+byte_decoded : (layout : Layout) (b : Byte) (kind mask number block offset part : ℕ) (rest others : List ℕ) → ByteFits layout b → (byte_code layout b ++ rest) ≡ (kind ∷ mask ∷ number ∷ block ∷ offset ∷ part ∷ others)
+    → Reads b (byte_of (nat_eq kind 1) mask number (record { block = block_name layout.blocks block; offset = offset }) part) rest others
+byte_decoded layout (byte.Bits n m) kind mask number block offset part rest others h e =
+    let k : kind ≡ (if nat_eq m 0 then 0 else 2) = cc in
+    let p : mask ≡ m = cc in
+    let q : number ≡ n = cc in
     let r : rest ≡ others = cc in
-    ((rw (k, m) refl), r)
-byte_decoded layout (byte.Part p i) kind number block offset part rest others h e =
+    ((rw (k, not_part m, p, q) (ap (λ x. byte.Bits x m) (sym (defined-apart n m h.0 h.1 h.2)))), r)
+byte_decoded layout (byte.Part p i) kind mask number block offset part rest others h e =
     let k : kind ≡ 1 = cc in
     let b : name_digit layout p.block ≡ block = cc in
     let o : p.offset ≡ offset = cc in
@@ -111,16 +117,12 @@ byte_decoded layout (byte.Part p i) kind number block offset part rest others h 
     let r : rest ≡ others = cc in
     let whole : p ≡ record { block = block_name layout.blocks block; offset = offset } = pointer_decoded layout p block offset h.0 b o in
     ((rw k (two byte.Part whole q)), r)
-byte_decoded layout byte.Poison kind number block offset part rest others h e =
-    let k : kind ≡ 2 = cc in
-    let r : rest ≡ others = cc in
-    ((rw k refl), r)
 
 module _ (v : ℕ → ℕ → ℕ) (terms : List Term) (layout : Layout) where
   place_decoded : (b : Byte) (place : ByteTerms) (rest others : List ℕ) → ByteFits layout b → (byte_code layout b ++ rest) ≡ (byte_numbers v terms place ++ others) → Reads b (given_byte_at (reading layout.blocks v) terms place) rest others
   unfolding given_byte_at
   place_decoded b place rest others h e =
-      byte_decoded layout b (term_at v terms place.kind) (term_at v terms place.number) (term_at v terms place.block) (term_at v terms place.offset) (term_at v terms place.part) rest others h e
+      byte_decoded layout b (term_at v terms place.kind) (term_at v terms place.mask) (term_at v terms place.number) (term_at v terms place.block) (term_at v terms place.offset) (term_at v terms place.part) rest others h e
 
   bytes_decoded : (bs : List Byte) (places : List ByteTerms) (rest others : List ℕ) → length bs ≡ length places → BytesFit layout bs → (flat_map (byte_code layout) bs ++ rest) ≡ (block_numbers v terms places ++ others)
       → Reads bs (map (given_byte_at (reading layout.blocks v) terms) places) rest others
@@ -194,7 +196,7 @@ args_numbered v terms (arg.Ptr flag block offset ∷ rest) = ap (λ ns. term_at 
 block_numbered : (v : ℕ → ℕ → ℕ) (terms : List Term) (places : List ByteTerms) → map (term_at v terms) (flat_map byte_ids places) ≡ block_numbers v terms places
 block_numbered v terms [] = refl
 block_numbered v terms (b ∷ rest) =
-    ap (λ ns. term_at v terms b.kind ∷ term_at v terms b.number ∷ term_at v terms b.block ∷ term_at v terms b.offset ∷ term_at v terms b.part ∷ ns) (block_numbered v terms rest)
+    ap (λ ns. term_at v terms b.kind ∷ term_at v terms b.mask ∷ term_at v terms b.number ∷ term_at v terms b.block ∷ term_at v terms b.offset ∷ term_at v terms b.part ∷ ns) (block_numbered v terms rest)
 
 joined : (a b c d : List ℕ) → a ≡ b → c ≡ d → (a ++ c) ≡ (b ++ d)
 joined a b c d e f = cc

@@ -34,6 +34,7 @@ module _ (old new : List Term) (e : Extends old new) where
   pub byte_extended : (b : ByteTerms) → IsByteTerms old b → IsByteTerms new b
   byte_extended b h = record {
     kind = term_extended 2 b.kind h.kind;
+    mask = term_extended 8 b.mask h.mask;
     number = term_extended 8 b.number h.number;
     block = term_extended 3 b.block h.block;
     offset = term_extended 64 b.offset h.offset;
@@ -95,7 +96,7 @@ pub places_more : (n : ℕ) → places_widths n ++ places_widths 1 ≡ places_wi
 places_more zero = refl
 places_more (suc n) =
     let e : suc n + 1 ≡ suc (n + 1) = omega arith in
-    rw e (ap (λ ws. 2 ∷ 8 ∷ 3 ∷ 64 ∷ 3 ∷ ws) (places_more n))
+    rw e (ap (λ ws. 2 ∷ 8 ∷ 8 ∷ 3 ∷ 64 ∷ 3 ∷ ws) (places_more n))
 
 pub blocks_more : (layout : Layout) (n : ℕ) → blocks_widths layout n ++ places_widths layout.bytes ≡ blocks_widths layout (n + 1)
 blocks_more layout zero = sym (append-nil (places_widths layout.bytes))

@@ -1,5 +1,6 @@
 -- The numbers of a point's code, and the words of a tape, have the widths that they are asked for with.
-use Rattle.pair_questions.proofs.Common.{◌≡◌, ℕ, zero, suc, ◌+◌, ◌^◌, ◌<◌, ◌≤◌, List, [], ◌∷◌, ◌++◌, length, replicate, sym, subst, arith, append_assoc, flat_map, IrType, Int, Parameter, Value, Byte, MemoryBlock, Layout, Bounds, Point, Shape, RunPair, layout_of, ArgsFit, BlocksFit, ByteFits, BytesFit, IsOfShape, ValueFits, WordsFit, args_code, byte_code, code_of, places_code, value_code, need_of, widest_choice, IsPoint, blocks_count, sizes_of, AreWidths, Fits, AreSmall, args_widths, blocks_widths, places_widths, point_widths, tape_widths, value_widths, IsShapeOf}
+use Rattle.pair_questions.proofs.Common.{◌≡◌, ℕ, zero, suc, ◌+◌, ◌^◌, ◌<◌, ◌≤◌, nat_eq, if◌then◌else◌, List, [], ◌∷◌, ◌++◌, length, replicate, sym, subst, arith, append_assoc, flat_map, IrType, Int, Parameter, Value, Byte, MemoryBlock, Layout, Bounds, Point, Shape, RunPair, layout_of, ArgsFit, BlocksFit, ByteFits, BytesFit, IsOfShape, ValueFits, WordsFit, args_code, byte_code, code_of, places_code, value_code, need_of, widest_choice, IsPoint, blocks_count, sizes_of, AreWidths, Fits, AreSmall, args_widths, blocks_widths, places_widths, point_widths, tape_widths, value_widths, IsShapeOf}
+use Rattle.std.proofs.Math.Dec.{eqb-suc-zero}
 use Rattle.std.proofs.Math.Pow.{pow_mono}
 use Rattle.ir_tree.specs.declared.tree.IrType.TheVariants as type
 use Rattle.byte_block.specs.declared.value.Value.TheVariants as value
@@ -26,7 +27,7 @@ args-narrow (p ∷ ps) = narrow-append (value_widths p.of_type) (args_widths ps)
 
 places-narrow : (n : ℕ) → AreWidths (places_widths n)
 places-narrow zero = tt
-places-narrow (suc n) = (omega arith, (omega arith, (omega arith, (omega arith, (omega arith, places-narrow n)))))
+places-narrow (suc n) = (omega arith, (omega arith, (omega arith, (omega arith, (omega arith, (omega arith, places-narrow n))))))
 
 blocks-narrow : (layout : Layout) (n : ℕ) → AreWidths (blocks_widths layout n)
 blocks-narrow layout zero = tt
@@ -86,10 +87,13 @@ sizes-fit : (layout : Layout) (number : ℕ) (bs : List MemoryBlock) → layout.
 sizes-fit layout number [] short fits = tt
 sizes-fit layout number (b ∷ bs) short fits = (omega (arith, short, fits.0.small), sizes-fit layout (number + 1) bs short fits.1)
 
+kind-fits : (m : ℕ) → (if nat_eq m 0 then 0 else 2) < 2 ^ 2
+kind-fits zero = omega arith
+kind-fits (suc m) = rw (eqb-suc-zero m) (omega arith)
+
 byte-fits : (layout : Layout) (b : Byte) → layout.blocks ≤ 4 → ByteFits layout b → Fits (places_widths 1) (byte_code layout b)
-byte-fits layout (byte.Num n) few fits = (omega arith, (fits, (omega arith, (omega arith, (omega arith, tt)))))
-byte-fits layout (byte.Part p i) few fits = (omega arith, (omega arith, (omega (arith, few, name_at_most layout p.block fits.0.block), (fits.0.offset, (omega (arith, fits.1), tt)))))
-byte-fits layout byte.Poison few fits = (omega arith, (omega arith, (omega arith, (omega arith, (omega arith, tt)))))
+byte-fits layout (byte.Bits n m) few fits = (kind-fits m, (fits.1, (fits.0, (omega arith, (omega arith, (omega arith, tt))))))
+byte-fits layout (byte.Part p i) few fits = (omega arith, (omega arith, (omega arith, (omega (arith, few, name_at_most layout p.block fits.0.block), (fits.0.offset, (omega (arith, fits.1), tt))))))
 
 bytes-fit : (layout : Layout) (bs : List Byte) → layout.blocks ≤ 4 → BytesFit layout bs → Fits (places_widths (length bs)) (flat_map (byte_code layout) bs)
 bytes-fit layout [] few fits = tt

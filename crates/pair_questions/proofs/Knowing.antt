@@ -1,5 +1,5 @@
 -- Known inputs denote what they were made of.
-use Rattle.pair_questions.proofs.Common.{ℕ, zero, suc, ◌≡◌, ◌<◌, ◌≤◌, ◌+◌, Bool, true, false, List, [], ◌∷◌, ◌++◌, length, map, take, get_or, All, refl, ap, sym, subst, ◌∙◌, arith, length-append, take_more, IrType, Parameter, BlockName, Null, Given, Local, Ptr, Value, Byte, MemoryBlock, Layout, Input, Point, Shape, BlockFits, PointerFits, ValueFits, ArgsFit, ByteFits, BytesFit, BlocksFit, IsOfShape, name_digit, block_number, blocks_count, TermId, Term, IsTerm, Keeps, Makes, term_at, ArgTerms, ByteTerms, Each, Reading, block_name, reading, value_of, byte_of, AreArgs, IsBlockTerms, arg_at, args_at, given_block_at, given_blocks_at, given_byte_at, input_at, map-push, map-same, args-later, args_at-later, keeps_trans, sizes-later, term-later, given_named, IsInputOf}
+use Rattle.pair_questions.proofs.Common.{ℕ, zero, suc, ◌≡◌, ◌<◌, ◌≤◌, ◌+◌, Bool, true, false, nat_eq, List, [], ◌∷◌, ◌++◌, length, map, take, get_or, All, refl, ap, sym, subst, ◌∙◌, arith, length-append, take_more, IrType, Parameter, BlockName, Null, Given, Local, Ptr, Value, Byte, MemoryBlock, Layout, Input, Point, Shape, BlockFits, PointerFits, ValueFits, ArgsFit, ByteFits, BytesFit, BlocksFit, IsOfShape, name_digit, block_number, blocks_count, TermId, Term, IsTerm, Keeps, Makes, term_at, ArgTerms, ByteTerms, Each, Reading, block_name, reading, value_of, byte_of, defined_bits, defined-apart, AreArgs, IsBlockTerms, arg_at, args_at, given_block_at, given_blocks_at, given_byte_at, input_at, map-push, map-same, args-later, args_at-later, keeps_trans, sizes-later, term-later, given_named, IsInputOf}
 use Rattle.ir_tree.specs.declared.tree.IrType.TheVariants as type
 use Rattle.byte_block.specs.declared.value.Value.TheVariants as value
 use Rattle.byte_block.specs.declared.value.Byte.TheVariants as byte
@@ -74,17 +74,30 @@ args_stand old new ps args more a xs i d k are lt e r so here = map_more (arg_at
 
 -- ---- bytes
 
--- five known terms
-pub five_known : (t0 t1 t2 t3 new : List Term) (b : ByteTerms) (kind number block offset part : ℕ) → Keeps t0 new → Keeps t1 new → Keeps t2 new → Keeps t3 new
-    → Makes t0 b.kind 2 (λ _. kind) → Makes t1 b.number 8 (λ _. number) → Makes t2 b.block 3 (λ _. block) → Makes t3 b.offset 64 (λ _. offset) → Makes new b.part 3 (λ _. part)
-    → (r : Reading) → given_byte_at r new b ≡ byte_of kind number (record { block = r.name block; offset = offset }) part
+-- six known terms
+pub six_known : (t0 t1 t2 t3 t4 new : List Term) (b : ByteTerms) (kind mask number block offset part : ℕ) → Keeps t0 new → Keeps t1 new → Keeps t2 new → Keeps t3 new → Keeps t4 new
+    → Makes t0 b.kind 2 (λ _. kind) → Makes t1 b.mask 8 (λ _. mask) → Makes t2 b.number 8 (λ _. number) → Makes t3 b.block 3 (λ _. block) → Makes t4 b.offset 64 (λ _. offset) → Makes new b.part 3 (λ _. part)
+    → (r : Reading) → given_byte_at r new b ≡ byte_of (nat_eq kind 1) mask number (record { block = r.name block; offset = offset }) part
 unfolding given_byte_at
-five_known t0 t1 t2 t3 new b kind number block offset part k0 k1 k2 k3 m0 m1 m2 m3 m4 r =
-    rw (made_is t0 new k0 b.kind 2 kind m0 r.v, made_is t1 new k1 b.number 8 number m1 r.v, made_is t2 new k2 b.block 3 block m2 r.v, made_is t3 new k3 b.offset 64 offset m3 r.v, m4.says r.v) refl
+six_known t0 t1 t2 t3 t4 new b kind mask number block offset part k0 k1 k2 k3 k4 m0 m1 m2 m3 m4 m5 r =
+    rw (
+      made_is t0 new k0 b.kind 2 kind m0 r.v,
+      made_is t1 new k1 b.mask 8 mask m1 r.v,
+      made_is t2 new k2 b.number 8 number m2 r.v,
+      made_is t3 new k3 b.block 3 block m3 r.v,
+      made_is t4 new k4 b.offset 64 offset m4 r.v,
+      m5.says r.v,
+    ) refl
 
--- the byte of a kind, a number, a pointer by its block's number, and a part
-abbrev pub byte_read : Layout → ℕ × ℕ × Ptr × ℕ → Byte
-byte_read layout t = byte_of t.0 t.1 (record { block = block_name layout.blocks (block_number t.2.block); offset = t.2.offset }) t.3
+-- the byte of a kind, a mask, a number, a pointer by its block's number, and a part
+abbrev pub byte_read : Layout → ℕ × ℕ × ℕ × Ptr × ℕ → Byte
+byte_read layout t = byte_of (nat_eq t.0 1) t.1 t.2 (record { block = block_name layout.blocks (block_number t.3.block); offset = t.3.offset }) t.4
+
+-- bits that fit have no bit of their mask
+pub bits_value : (layout : Layout) (b : Byte) (n m k : ℕ) → b ≡ byte.Bits n m → m ≡ k → ByteFits layout b → byte.Bits (defined_bits n k) k ≡ b
+bits_value layout b n m k is same fits =
+    let h : ByteFits layout (byte.Bits n m) = subst (ByteFits layout) is fits in
+    rw (← same) (ap (λ x. byte.Bits x m) (defined-apart n m h.0 h.1 h.2) ∙ sym is)
 
 -- a part of a pointer that fits is the one of its block's number
 pub part_value : (layout : Layout) (p : Ptr) (i : ℕ) → ByteFits layout (byte.Part p i) → byte.Part (record { block = block_name layout.blocks (block_number p.block); offset = p.offset }) i ≡ byte.Part p i
@@ -120,9 +133,8 @@ args_fit_more [] (x ∷ xs) few many le fits = absurd fits
 args_fit_more (p ∷ ps) [] few many le fits = absurd fits
 
 byte_fits_more : (b : Byte) (few many : Layout) → few.blocks ≤ many.blocks → ByteFits few b → ByteFits many b
-byte_fits_more (byte.Num n) few many le fits = fits
+byte_fits_more (byte.Bits n m) few many le fits = fits
 byte_fits_more (byte.Part p i) few many le fits = (pointer_fits_more p few many le fits.0, fits.1)
-byte_fits_more byte.Poison few many le fits = tt
 
 pub bytes_fit_more : (bs : List Byte) (few many : Layout) → few.blocks ≤ many.blocks → BytesFit few bs → BytesFit many bs
 bytes_fit_more [] few many le fits = tt

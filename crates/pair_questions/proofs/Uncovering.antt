@@ -77,6 +77,7 @@ byte-later : (old new : List Term) (k : Keeps old new) (b : ByteTerms) → IsByt
 byte-later old new k b h v =
     rw (
       term-later old new k v b.kind h.kind.within,
+      term-later old new k v b.mask h.mask.within,
       term-later old new k v b.number h.number.within,
       term-later old new k v b.block h.block.within,
       term-later old new k v b.offset h.offset.within,

@@ -45,10 +45,10 @@ abbrev pub args_widths : List Parameter → List ℕ
 args_widths [] = []
 args_widths (p ∷ ps) = value_widths p.of_type ++ args_widths ps
 
--- the kind, the number, the block, the offset and the part of each byte
+-- the kind, the mask, the number, the block, the offset and the part of each byte
 abbrev pub places_widths : ℕ → List ℕ
 places_widths zero = []
-places_widths (suc n) = 2 ∷ 8 ∷ 3 ∷ 64 ∷ 3 ∷ places_widths n
+places_widths (suc n) = 2 ∷ 8 ∷ 8 ∷ 3 ∷ 64 ∷ 3 ∷ places_widths n
 
 -- those of n given blocks
 abbrev pub blocks_widths : Layout → ℕ → List ℕ

@@ -28,7 +28,7 @@ arg_ids (arg.Int flag number) = flag ∷ number ∷ []
 arg_ids (arg.Ptr flag block offset) = flag ∷ block ∷ offset ∷ []
 
 abbrev pub byte_ids : ByteTerms → List TermId
-byte_ids b = b.kind ∷ b.number ∷ b.block ∷ b.offset ∷ b.part ∷ []
+byte_ids b = b.kind ∷ b.mask ∷ b.number ∷ b.block ∷ b.offset ∷ b.part ∷ []
 
 -- the terms of the numbers before the tape, in the order of the code
 abbrev pub input_ids : InputTerms → List TermId

@@ -76,7 +76,7 @@ fn arg_variables(
     Ok(Sequence::from_vec(args))
 }
 
-/// The five numbers of a byte.
+/// The six numbers of a byte.
 fn place_variables(terms: &mut Terms, order: &mut Vec<TermId>) -> Result<ByteTerms, NoMemory>
     ensures place { IfOk result (IsByteTerms terms.new) }
     ensures order { OnOk result ((widths : List ℕ) → IsOrder terms.old order.old.items widths → IsOrder terms.new order.new.items (widths ++ places_widths 1)) }
@@ -84,12 +84,14 @@ fn place_variables(terms: &mut Terms, order: &mut Vec<TermId>) -> Result<ByteTer
     ensures kept { Extends terms.old terms.new }
 {
     let kind = variable(terms, order, 2)?;
+    let mask = variable(terms, order, 8)?;
     let number = variable(terms, order, 8)?;
     let block = variable(terms, order, 3)?;
     let offset = variable(terms, order, 64)?;
     let part = variable(terms, order, 3)?;
     Ok(ByteTerms {
         kind,
+        mask,
         number,
         block,
         offset,

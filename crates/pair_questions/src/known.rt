@@ -112,17 +112,19 @@ fn known_byte(byte: Byte, terms: &mut Terms) -> Result<ByteTerms, NoMemory>
         block: BlockName::Null,
         offset: 0,
     };
-    let (kind, number, pointer, part) = match byte {
-        Byte::Num(number) => (0, number, null, 0),
-        Byte::Part(pointer, part) => (1, 0, pointer, part),
-        Byte::Poison => (2, 0, null, 0),
+    let (kind, mask, number, pointer, part) = match byte {
+        Byte::Bits { number, mask: 0 } => (0, 0, number, null, 0),
+        Byte::Bits { number, mask } => (2, mask, number, null, 0),
+        Byte::Part(pointer, part) => (1, 0, 0, pointer, part),
     };
     let kind = terms.constant(kind, 2)?;
+    let mask = terms.constant(mask as u128, 8)?;
     let number = terms.constant(number as u128, 8)?;
     let (block, offset) = known_pointer(pointer, terms)?;
     let part = terms.constant(part as u128, 3)?;
     Ok(ByteTerms {
         kind,
+        mask,
         number,
         block,
         offset,

@@ -4,7 +4,7 @@ use Rattle.std.proofs.Common.{◌≡◌, ℕ, ◌+◌, ◌<◌, ◌≤◌, Bool,
 use Rattle.std.proofs.lemmas.List.{take_more, take_all}
 use Rattle.std.proofs.lemmas.Option.{slice_get-get_or}
 use Rattle.byte_block.specs.declared.value.Byte.{Byte}
-use Rattle.byte_block.specs.declared.value.Byte.TheVariants.{Num}
+use Rattle.byte_block.specs.declared.value.Byte.TheVariants.{Bits}
 use Rattle.points.specs.Refines.{byte_allows, pairs_pass}
 use Rattle.pair_trace.specs.Differences.{IsOtherByte}
 
@@ -27,12 +27,12 @@ unfolding pairs_pass
 none_before ss ts = refl
 
 pub before_more : (ss ts : List Byte) (i : ℕ) → i < length ss → i < length ts → pairs_pass byte_allows (take i ss) (take i ts) ≡ true
-    → byte_allows (get_or ss i (Num 0)) (get_or ts i (Num 0)) ≡ true → pairs_pass byte_allows (take (i + 1) ss) (take (i + 1) ts) ≡ true
-before_more ss ts i p q before one = rw (take_more ss i (Num 0) p, take_more ts i (Num 0) q) (pairs_pass-snoc byte_allows (take i ss) (take i ts) (get_or ss i (Num 0)) (get_or ts i (Num 0)) before one)
+    → byte_allows (get_or ss i (Bits 0 0)) (get_or ts i (Bits 0 0)) ≡ true → pairs_pass byte_allows (take (i + 1) ss) (take (i + 1) ts) ≡ true
+before_more ss ts i p q before one = rw (take_more ss i (Bits 0 0) p, take_more ts i (Bits 0 0) q) (pairs_pass-snoc byte_allows (take i ss) (take i ts) (get_or ss i (Bits 0 0)) (get_or ts i (Bits 0 0)) before one)
 
 pub before_all : (ss ts : List Byte) (i : ℕ) → length ss ≤ i → length ts ≤ i → pairs_pass byte_allows (take i ss) (take i ts) ≡ true → pairs_pass byte_allows ss ts ≡ true
 before_all ss ts i p q before = rw (take_all i ss p, take_all i ts q) at before
 
 pub other_at : (ss ts : List Byte) (i : ℕ) → i < length ss → i < length ts → pairs_pass byte_allows (take i ss) (take i ts) ≡ true
-    → byte_allows (get_or ss i (Num 0)) (get_or ts i (Num 0)) ≡ false → IsOtherByte ss ts i
-other_at ss ts i p q before other = record { before = before; other = rw (slice_get-get_or ss i (Num 0) p, slice_get-get_or ts i (Num 0) q) other }
+    → byte_allows (get_or ss i (Bits 0 0)) (get_or ts i (Bits 0 0)) ≡ false → IsOtherByte ss ts i
+other_at ss ts i p q before other = record { before = before; other = rw (slice_get-get_or ss i (Bits 0 0) p, slice_get-get_or ts i (Bits 0 0) q) other }

@@ -5,22 +5,9 @@ ghost use Rattle.points.specs.Refines.{byte_allows, pairs_pass, block_allows, bl
 ghost use Rattle.pair_trace.specs.Differences.{IsOtherByte, IsBlockDifference, IsMemoryDifference};
 
 use crate::differences::Difference;
-use byte_block::{Byte, MemoryBlock, Value};
+use byte_block::{Byte, MemoryBlock};
 use memory_access::{bytes_in, is_equal_name};
-use points::returned_is_allowed;
-
-fn byte_is_allowed(source: Byte, target: Byte) -> bool
-    ensures { result ≡ byte_allows source target }
-{
-    match (source, target) {
-        (Byte::Poison, _) => true,
-        (Byte::Num(a), Byte::Num(b)) => a == b,
-        (Byte::Part(p, i), Byte::Part(q, j)) => {
-            returned_is_allowed(Some(Value::Ptr(p)), Some(Value::Ptr(q))) && i == j
-        }
-        _ => false,
-    }
-}
+use points::byte_is_allowed;
 
 /// The index of the first byte that the source's does not allow.
 fn other_byte(source: &[Byte], target: &[Byte]) -> Option<usize>

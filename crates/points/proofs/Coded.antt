@@ -1,9 +1,8 @@
 -- The code of a point is a code of its shape.
-use Rattle.points.proofs.Common.{◌≡◌, inl, inr, ℕ, zero, suc, ◌+◌, ◌-◌, List, [], ◌∷◌, ◌++◌, length, drop, replicate, refl, arith, append_assoc, flat_map, IrType, Int, Parameter, Value, Num, Poison, Byte, MemoryBlock, Layout, Point, Shape, ValueFits, ArgsFit, ByteFits, BytesFit, IsGivenBlock, BlocksFit, IsOfShape, name_digit, value_code, args_code, byte_code, places_code, blocks_code, code_of, IsCodeOfValue, IsCodeOfArgs, AreSizes, IsCodeOfByte, IsCodeOfPlaces, IsCodeOfBlocks, IsCode}
+use Rattle.points.proofs.Common.{◌≡◌, inl, inr, ℕ, zero, suc, ◌+◌, ◌-◌, List, [], ◌∷◌, ◌++◌, length, drop, replicate, refl, arith, append_assoc, flat_map, IrType, Int, Parameter, Value, Num, Poison, Byte, Bits, Part, MemoryBlock, Layout, Point, Shape, ValueFits, ArgsFit, ByteFits, BytesFit, IsGivenBlock, BlocksFit, IsOfShape, name_digit, value_code, args_code, byte_code, places_code, blocks_code, code_of, IsCodeOfValue, IsCodeOfArgs, AreSizes, IsCodeOfByte, IsCodeOfPlaces, IsCodeOfBlocks, IsCode}
 use Rattle.ir_tree.specs.declared.tree.IrType.TheVariants as type
 use Rattle.byte_block.specs.declared.value.Value.TheVariants as value
-use Rattle.byte_block.specs.declared.value.Byte.TheVariants as byte
-use Rattle.points.proofs.ByteOrder.{name_at_most}
+use Rattle.points.proofs.ByteOrder.{name_at_most, poison_code}
 use Rattle.points.proofs.Same.{sizes_of, blocks_count}
 
 value_coded : (layout : Layout) (t : IrType) (v : Value) → ValueFits layout t v → IsCodeOfValue layout t (value_code layout t v)
@@ -25,16 +24,24 @@ sizes_coded layout number [] fits = tt
 sizes_coded layout number (b ∷ bs) fits = (fits.0.small, sizes_coded layout (number + 1) bs fits.1)
 
 byte_coded : (layout : Layout) (b : Byte) → ByteFits layout b → IsCodeOfByte layout (byte_code layout b)
-byte_coded layout (byte.Num n) fits = inl (record { number = n; is = refl; small = fits })
-byte_coded layout (byte.Part p i) fits = inr (inl (record { block = name_digit layout p.block; offset = p.offset; part = i; is = refl; given = name_at_most layout p.block fits.0.block; small = fits.0.offset; of_eight = fits.1 }))
-byte_coded layout byte.Poison fits = inr (inr refl)
+byte_coded layout (Bits n zero) fits = inl (record { number = n; is = refl; small = fits.0 })
+byte_coded layout (Part p i) fits = inr (inl (record { block = name_digit layout p.block; offset = p.offset; part = i; is = refl; given = name_at_most layout p.block fits.0.block; small = fits.0.offset; of_eight = fits.1 }))
+byte_coded layout (Bits n (suc m)) fits = inr (inr (record {
+  mask = suc m;
+  number = n;
+  is = poison_code layout n (suc m) (omega arith);
+  some = omega arith;
+  within = fits.1;
+  small = fits.0;
+  apart = fits.2;
+}))
 
-places_coded : (layout : Layout) (size k : ℕ) (bs : List Byte) → k + size ≡ length bs → drop size bs ≡ replicate k (byte.Num 0) → BytesFit layout bs → IsCodeOfPlaces layout (length bs) size (flat_map (byte_code layout) bs)
+places_coded : (layout : Layout) (size k : ℕ) (bs : List Byte) → k + size ≡ length bs → drop size bs ≡ replicate k (Bits 0 0) → BytesFit layout bs → IsCodeOfPlaces layout (length bs) size (flat_map (byte_code layout) bs)
 places_coded layout size k [] long past fit = refl
 places_coded layout zero zero (b ∷ bs) long past fit = absurd (omega (arith, long))
 places_coded layout zero (suc k) (b ∷ bs) long past fit =
-    let here : b ≡ byte.Num 0 = cc in
-    let rest : bs ≡ replicate k (byte.Num 0) = cc in
+    let here : b ≡ Bits 0 0 = cc in
+    let rest : bs ≡ replicate k (Bits 0 0) = cc in
     record { front = byte_code layout b; back = flat_map (byte_code layout) bs; whole = refl; in_front = rw here refl; in_back = places_coded layout zero k bs (omega (arith, long)) rest fit.1 }
 places_coded layout (suc size) k (b ∷ bs) long past fit =
     record { front = byte_code layout b; back = flat_map (byte_code layout) bs; whole = refl; in_front = byte_coded layout b fit.0; in_back = places_coded layout size k bs (omega (arith, long)) past fit.1 }

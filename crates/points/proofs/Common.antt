@@ -1,20 +1,21 @@
 -- What proofs of this crate cite of std, of other crates and of its definitions, passed on from one place. Declares nothing.
-pub use Rattle.std.proofs.Common.{◌≡◌, ℕ, ◌+◌, ◌<◌, List, [], ◌∷◌, length, drop, get_or, Bool, true, false, if◌then◌else◌, Some, None, refl, ap, ◌∙◌, inl, inr, zero, suc, ◌-◌, ◌*◌, ◌^◌, ◌≤◌, sym, arith, slice_get, add-one, ◌++◌, replicate, append_assoc, append-nil, length-append, Option, sum_by, take, ◌%◌, max, ◌&&◌, subst, map, add-zero, ◌⊎◌, pow-add, ◌≢◌, zero-add, suc-add, rules}
+pub use Rattle.std.proofs.Common.{◌≡◌, ℕ, ◌+◌, ◌<◌, List, [], ◌∷◌, length, drop, get_or, Bool, true, false, if◌then◌else◌, Some, None, refl, ap, ◌∙◌, inl, inr, zero, suc, ◌-◌, ◌*◌, ◌^◌, ◌≤◌, sym, arith, slice_get, add-one, ◌++◌, replicate, append_assoc, append-nil, length-append, Option, sum_by, take, ◌%◌, max, ◌&&◌, subst, map, add-zero, ◌⊎◌, pow-add, ◌≢◌, nat_eq, zero-add, suc-add, rules}
 pub use Rattle.std.proofs.Math.ListN.{set, length-set}
 pub use Rattle.std.proofs.Math.Nat.{mod-le, mod-eq_of_lt, mul-le-mul_right, pow-succ'}
 pub use Rattle.std.proofs.Math.Pow.{pow_mono}
 pub use Rattle.std.proofs.Math.Seq.{drop-length, take-suc-set}
-pub use Rattle.std.proofs.lemmas.Bool.{cases_eq, cases_lt, ltb-true, cases_order}
+pub use Rattle.std.proofs.lemmas.Bool.{cases_eq, cases_lt, ltb-true, cases_order, ne_eqb}
 pub use Rattle.std.proofs.lemmas.List.{drop_more, set-get_or, at_drop_all, length-replicate}
 pub use Rattle.std.proofs.lemmas.List.Sums.{sum_by-cons}
 pub use Rattle.std.proofs.lemmas.Nat.{mod_below, pow_pos, same_from_place}
 pub use Rattle.std.proofs.lemmas.Option.{get_or_from_slice_get, slice_get-get_or, slice_get_read}
 pub use Rattle.std.specs.List.{flat_map, list_any}
+pub use Rattle.std.specs.Int.Bits.{bit_and, and_zero_l, and_zero_r}
 pub use Rattle.byte_block.specs.declared.block.MemoryBlock.{MemoryBlock}
 pub use Rattle.byte_block.specs.declared.value.BlockName.{BlockName}
 pub use Rattle.byte_block.specs.declared.value.BlockName.TheVariants.{Given, Null, Local}
 pub use Rattle.byte_block.specs.declared.value.Byte.{Byte}
-pub use Rattle.byte_block.specs.declared.value.Byte.TheVariants.{Part}
+pub use Rattle.byte_block.specs.declared.value.Byte.TheVariants.{Bits, Part}
 pub use Rattle.byte_block.specs.declared.value.Ptr.{Ptr}
 pub use Rattle.byte_block.specs.declared.value.Value.{Value}
 pub use Rattle.byte_block.specs.declared.value.Value.TheVariants.{Num, Poison}

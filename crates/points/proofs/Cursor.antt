@@ -19,7 +19,7 @@ byte_here room i places rest digits h below = here h.left (let count = h.count i
     here zero some enough = absurd (omega (arith, some))
     here (suc left) some enough = enough.0
 
-pub read_more : (room i : ℕ) (places more : List Byte) (rest behind digits : List ℕ) (b : Byte) → AreToRead room i places rest digits → i < room → more ≡ places ++ b ∷ [] → b ≡ byte_from rest → behind ≡ drop 5 rest → AreToRead room (i + 1) more behind digits
+pub read_more : (room i : ℕ) (places more : List Byte) (rest behind digits : List ℕ) (b : Byte) → AreToRead room i places rest digits → i < room → more ≡ places ++ b ∷ [] → b ≡ byte_from rest → behind ≡ drop 6 rest → AreToRead room (i + 1) more behind digits
 read_more room i places more rest behind digits b h below push is skip = next h.left h.count h.enough h.read
   where
     next : (left : ℕ) → left + i ≡ room → HaveBytes left rest → places ++ places_from left rest ≡ places_from room digits → AreToRead room (i + 1) more behind digits
@@ -42,10 +42,10 @@ all_read room i places rest digits h past = end h.left (let count = h.count in o
 
 small_bytes : (layout : Layout) (front back : List ℕ) → IsCodeOfByte layout front → HasByte (front ++ back)
 small_bytes layout front back h = elim h as (λ _. HasByte (front ++ back)) [
-  | inl n ↦ rw n.is (record { five = omega arith; number = λ e. n.small; part = λ e. absurd (omega (arith, e)) })
+  | inl n ↦ rw n.is (record { six = omega arith; mask = omega arith; number = n.small; part = omega arith })
   | inr other ↦ elim other as (λ _. HasByte (front ++ back)) [
-    | inl p ↦ (let part = p.of_eight in rw p.is (record { five = omega arith; number = λ e. absurd (omega (arith, e)); part = λ e. omega (arith, part) }))
-    | inr e ↦ rw e (record { five = omega arith; number = λ e. absurd (omega (arith, e)); part = λ e. absurd (omega (arith, e)) })
+    | inl p ↦ (let part = p.of_eight in rw p.is (record { six = omega arith; mask = omega arith; number = omega arith; part = omega (arith, part) }))
+    | inr b ↦ rw b.is (record { six = omega arith; mask = b.within; number = b.small; part = omega arith })
   ]
 ]
 
@@ -53,7 +53,7 @@ have_bytes : (layout : Layout) (room size : ℕ) (front back : List ℕ) → IsC
 have_bytes layout zero size front back h = tt
 have_bytes layout (suc room) zero front back h =
     let rest = have_bytes layout room zero h.back back h.in_back in
-    rw (h.whole, h.in_front) (record { five = omega arith; number = λ e. omega arith; part = λ e. absurd (omega (arith, e)) }, rest)
+    rw (h.whole, h.in_front) (record { six = omega arith; mask = omega arith; number = omega arith; part = omega arith }, rest)
 have_bytes layout (suc room) (suc size) front back h =
     let first = small_bytes layout h.front (h.back ++ back) h.in_front in
     let reads = read_byte layout h.front (h.back ++ back) h.in_front in
@@ -66,7 +66,7 @@ have_blocks layout (suc n) (size ∷ sizes) ds small h =
     let reads = read_places layout layout.bytes size h.front h.back small.0 h.in_front in
     let long = reads.length in
     let rest = have_blocks layout n sizes h.back small.1 h.in_back in
-    rw (h.whole) (record { enough = rw (length-append) (omega (arith, long)); are_bytes = have_bytes layout layout.bytes size h.front h.back h.in_front }, rw (drop_front h.front h.back (layout.bytes * 5) long) rest)
+    rw (h.whole) (record { enough = rw (length-append) (omega (arith, long)); are_bytes = have_bytes layout layout.bytes size h.front h.back h.in_front }, rw (drop_front h.front h.back (layout.bytes * 6) long) rest)
 have_blocks layout zero (size ∷ sizes) ds small h = absurd small
 
 -- ---- the parts of a code

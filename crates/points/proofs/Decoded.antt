@@ -1,8 +1,8 @@
 -- Each code of a shape is the code of exactly one point.
-use Rattle.points.proofs.Common.{◌≡◌, inl, inr, ℕ, zero, suc, ◌+◌, ◌-◌, ◌*◌, ◌≤◌, List, [], ◌∷◌, ◌++◌, length, drop, replicate, refl, sym, ap, ◌∙◌, arith, append_assoc, length-append, flat_map, IrType, Int, Parameter, Layout, Point, Shape, BlockFits, ValueFits, ArgsFit, ByteFits, BytesFit, BlocksFit, WordsFit, IsOfShape, name_digit, value_code, args_code, byte_code, places_code, code_of, IsCodeOfValue, IsCodeOfArgs, AreSizes, IsCodeOfByte, IsCodeOfPlaces, IsCodeOfBlocks, IsCode, value_length, name_from, value_from, args_from, byte_from, places_from, blocks_from, IsPointWith, CodesTellPoints}
+use Rattle.points.proofs.Common.{◌≡◌, inl, inr, ℕ, zero, suc, ◌+◌, ◌-◌, ◌*◌, ◌≤◌, List, [], ◌∷◌, ◌++◌, length, drop, replicate, refl, sym, ap, ◌∙◌, arith, append_assoc, length-append, and_zero_r, flat_map, IrType, Int, Parameter, Bits, Layout, Point, Shape, BlockFits, ValueFits, ArgsFit, ByteFits, BytesFit, BlocksFit, WordsFit, IsOfShape, name_digit, value_code, args_code, byte_code, places_code, code_of, IsCodeOfValue, IsCodeOfArgs, AreSizes, IsCodeOfByte, IsCodeOfPlaces, IsCodeOfBlocks, IsCode, value_length, name_from, value_from, args_from, byte_from, places_from, blocks_from, IsPointWith, CodesTellPoints}
 use Rattle.ir_tree.specs.declared.tree.IrType.TheVariants as type
-use Rattle.byte_block.specs.declared.value.Byte.TheVariants as byte
 use Rattle.points.proofs.Same.{sizes_of, same_coded}
+use Rattle.points.proofs.ByteOrder.{zero_fits, poison_code}
 use Rattle.points.proofs.Coded.{point_coded}
 
 both : {a b c d : List ℕ} → a ≡ b → c ≡ d → a ++ c ≡ b ++ d
@@ -56,17 +56,17 @@ read_args layout (p ∷ ps) ds h =
 pub record ReadsByte (layout : Layout) (front back : List ℕ) : Type 0 where
   pub fits : ByteFits layout (byte_from (front ++ back))
   pub code : byte_code layout (byte_from (front ++ back)) ≡ front
-  pub length : length front ≡ 5
-  pub rest : drop 5 (front ++ back) ≡ back
+  pub length : length front ≡ 6
+  pub rest : drop 6 (front ++ back) ≡ back
 
 pub read_byte : (layout : Layout) (front back : List ℕ) → IsCodeOfByte layout front → ReadsByte layout front back
 read_byte layout front back h = elim h as (λ _. ReadsByte layout front back) [
-  | inl n ↦ rw n.is (record { fits = n.small; code = refl; length = refl; rest = refl })
+  | inl n ↦ rw n.is (record { fits = (n.small, omega arith, and_zero_r n.number); code = refl; length = refl; rest = refl })
   | inr other ↦ elim other as (λ _. ReadsByte layout front back) [
     | inl p ↦
         let name = read_name layout p.block p.given in
-        rw p.is (record { fits = (record { block = name.fits; offset = p.small }, p.of_eight); code = ap (λ b. 1 ∷ 0 ∷ b ∷ p.offset ∷ p.part ∷ []) name.code; length = refl; rest = refl })
-    | inr e ↦ rw e (record { fits = tt; code = refl; length = refl; rest = refl })
+        rw p.is (record { fits = (record { block = name.fits; offset = p.small }, p.of_eight); code = ap (λ b. 1 ∷ 0 ∷ 0 ∷ b ∷ p.offset ∷ p.part ∷ []) name.code; length = refl; rest = refl })
+    | inr b ↦ rw b.is (record { fits = (b.small, b.within, b.apart); code = poison_code layout b.number b.mask b.some; length = refl; rest = refl })
   ]
 ]
 
@@ -75,17 +75,17 @@ pub record ReadsPlaces (layout : Layout) (room size : ℕ) (front back : List �
   pub count : length (places_from room (front ++ back)) ≡ room
   pub fit : BytesFit layout (places_from room (front ++ back))
   pub code : flat_map (byte_code layout) (places_from room (front ++ back)) ≡ front
-  pub past : drop size (places_from room (front ++ back)) ≡ replicate (room - size) (byte.Num 0)
-  pub length : length front ≡ room * 5
+  pub past : drop size (places_from room (front ++ back)) ≡ replicate (room - size) (Bits 0 0)
+  pub length : length front ≡ room * 6
 
 record AreUnused (room : ℕ) (front back : List ℕ) : Type 0 where
-  pub places : places_from room (front ++ back) ≡ replicate room (byte.Num 0)
+  pub places : places_from room (front ++ back) ≡ replicate room (Bits 0 0)
 
 read_unused : (layout : Layout) (room : ℕ) (front back : List ℕ) → IsCodeOfPlaces layout room zero front → AreUnused room front back
 read_unused layout zero front back h = record { places = refl }
 read_unused layout (suc room) front back h =
     let rest = read_unused layout room h.back back h.in_back in
-    rw (h.whole, h.in_front) (record { places = ap (λ bs. byte.Num 0 ∷ bs) rest.places })
+    rw (h.whole, h.in_front) (record { places = ap (λ bs. Bits 0 0 ∷ bs) rest.places })
 
 pub minus_zero : (n : ℕ) → n - 0 ≡ n
 minus_zero n = omega arith
@@ -98,9 +98,9 @@ read_places layout (suc room) zero front back small h =
     let unused = read_unused layout room h.back back h.in_back in
     rw (h.whole, h.in_front) (record {
       count = ap suc rest.count;
-      fit = (omega arith, rest.fit);
-      code = ap (λ ds. 0 ∷ 0 ∷ 0 ∷ 0 ∷ 0 ∷ ds) rest.code;
-      past = rw minus_zero (ap (λ bs. byte.Num 0 ∷ bs) unused.places);
+      fit = (zero_fits layout, rest.fit);
+      code = ap (λ ds. 0 ∷ 0 ∷ 0 ∷ 0 ∷ 0 ∷ 0 ∷ ds) rest.code;
+      past = rw minus_zero (ap (λ bs. Bits 0 0 ∷ bs) unused.places);
       length = (let long = rest.length in omega (arith, long));
     })
 read_places layout (suc room) (suc size) front back small h =
@@ -111,8 +111,8 @@ read_places layout (suc room) (suc size) front back small h =
       count = rw again (ap suc (rw first.rest rest.count));
       fit = rw again (first.fits, rw first.rest rest.fit);
       code = rw again (both first.code (rw first.rest rest.code));
-      past = rw again (rw first.rest (rest.past ∙ ap (λ n. replicate n (byte.Num 0)) (omega arith)));
-      length = rw (length-append) (let long = rest.length in let five = first.length in omega (arith, long, five));
+      past = rw again (rw first.rest (rest.past ∙ ap (λ n. replicate n (Bits 0 0)) (omega arith)));
+      length = rw (length-append) (let long = rest.length in let six = first.length in omega (arith, long, six));
     })
 
 -- ---- blocks
@@ -133,7 +133,7 @@ read_blocks layout number zero [] ds count small h = rw h (record { fits = omega
 read_blocks layout number (suc n) (size ∷ sizes) ds count small h =
     let here = read_places layout layout.bytes size h.front h.back small.0 h.in_front in
     let rest = read_blocks layout (number + 1) n sizes h.back (omega (arith, count)) small.1 h.in_back in
-    let behind = drop_front h.front h.back (layout.bytes * 5) here.length in
+    let behind = drop_front h.front h.back (layout.bytes * 6) here.length in
     rw (h.whole) (record {
       fits = (record { named = refl; aligned = refl; small = small.0; room = here.count; past = here.past; fit = here.fit }, rw behind rest.fits);
       same_sizes = ap (λ ns. size ∷ ns) (rw behind rest.same_sizes);

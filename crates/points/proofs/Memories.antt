@@ -14,7 +14,7 @@ pub record IsLike (layout : Layout) (k b : MemoryBlock) : Type 0 where
   pub align : b.align ≡ k.align
   pub places : PlacesFit layout layout.bytes k.size b.places
 
-pub blocks_are : (layout : Layout) → layout.blocks < 2 ^ 64 → AreThings (IsLike layout) (places_code layout) (layout.bytes * 5) zero_places
+pub blocks_are : (layout : Layout) → layout.blocks < 2 ^ 64 → AreThings (IsLike layout) (places_code layout) (layout.bytes * 6) zero_places
 blocks_are layout few = record {
   digits = λ k x like. (let h = bytes_digits layout x.places few like.places.fit in rw like.places.room at h);
   fits = λ k x like. record { name = like.name; size = like.size; align = like.align; places = zeros_fit layout layout.bytes k.size x.places like.places.room };
@@ -104,8 +104,8 @@ next_memory_is layout bs old set_bs result i b places few fits same here step la
     let given = given_at layout 1 old i b fits here' in
     let thing = next_block layout b places given.given.room step in
     let is : result ≡ raised zero_places old i (record b { places = places }) = zeros ∙ rw (raise, same) (raised_is zero_places old i (record b { places = places })) in
-    let code = next_row (IsLike layout) (places_code layout) (layout.bytes * 5) zero_places things old old i b b (record b { places = places }) row here' here' thing last' in
-    let whole = blocks_of_row layout 1 old (raised zero_places old i (record b { places = places })) fits (raised_fits (IsLike layout) (places_code layout) (layout.bytes * 5) zero_places things old old i b (record b { places = places }) row here' thing.fits) in
+    let code = next_row (IsLike layout) (places_code layout) (layout.bytes * 6) zero_places things old old i b b (record b { places = places }) row here' here' thing last' in
+    let whole = blocks_of_row layout 1 old (raised zero_places old i (record b { places = places })) fits (raised_fits (IsLike layout) (places_code layout) (layout.bytes * 6) zero_places things old old i b (record b { places = places }) row here' thing.fits) in
     rw is (record {
       fits = whole.0;
       sizes = whole.1;
@@ -116,7 +116,7 @@ next_memory_is layout bs old set_bs result i b places few fits same here step la
 pub last_memory_is : (layout : Layout) (bs old : List MemoryBlock) (i : ℕ) → layout.blocks < 2 ^ 64 → BlocksFit layout 1 old → bs ≡ old → PlacesAreLast layout old bs i → i ≤ 0 → IsLastMemory layout old
 last_memory_is layout bs old i few fits same last none = λ other other_fits sizes.
     let last' = rw same at last in
-    last_row (IsLike layout) (places_code layout) (layout.bytes * 5) zero_places (blocks_are layout few) old old (row_of_blocks layout 1 old old fits fits refl)
+    last_row (IsLike layout) (places_code layout) (layout.bytes * 6) zero_places (blocks_are layout few) old old (row_of_blocks layout 1 old old fits fits refl)
     (λ j k x from e e'. last' j k x (omega arith) e e')
     (flat_map (places_code layout) other) (record { things = other; is = refl; fits = row_of_blocks layout 1 old other fits other_fits sizes })
 

@@ -1,6 +1,6 @@
 -- The next contents of a block: what is before its size is a row of bytes, and the rest a row of zeros.
-use Rattle.points.proofs.Common.{◌≡◌, ℕ, zero, suc, ◌+◌, ◌-◌, ◌^◌, ◌<◌, ◌≤◌, Bool, true, false, List, [], ◌∷◌, length, drop, replicate, refl, ap, ◌∙◌, arith, slice_get, Some, add-one, set, flat_map, Byte, Layout, number_of, ByteFits, BytesFit, byte_code, byte_number, IsNextByte, IsLastByte, PlacesFit, places_number, IsNextPlaces, IsLastPlaces, from_place, zero_byte}
-use Rattle.byte_block.specs.declared.value.Byte.TheVariants.{Num}
+use Rattle.points.proofs.Common.{◌≡◌, ℕ, zero, suc, ◌+◌, ◌-◌, ◌^◌, ◌<◌, ◌≤◌, Bool, true, false, List, [], ◌∷◌, length, drop, replicate, refl, ap, ◌∙◌, arith, slice_get, Some, add-one, set, flat_map, Byte, Bits, Layout, number_of, ByteFits, BytesFit, byte_code, byte_number, IsNextByte, IsLastByte, PlacesFit, places_number, IsNextPlaces, IsLastPlaces, from_place, zero_byte}
+use Rattle.points.proofs.ByteOrder.{zero_fits}
 use Rattle.points.proofs.Order.{Digits}
 use Rattle.points.proofs.Same.{byte_digits}
 use Rattle.points.proofs.Rows.{RowFits, AreThings, IsNextThing, AreLastFrom, raised, raised_is, raised_fits, last_row, next_row, last_more, row_at}
@@ -8,7 +8,7 @@ use Rattle.points.proofs.Rows.{RowFits, AreThings, IsNextThing, AreLastFrom, rai
 -- a byte where the offset is live, and else the number 0
 abbrev pub ByteIf : Layout → Bool → Byte → Type 0
 ByteIf layout true b = ByteFits layout b
-ByteIf layout false b = b ≡ Num 0
+ByteIf layout false b = b ≡ Bits 0 0
 
 -- which offsets of a block are live
 abbrev pub lives : ℕ → ℕ → List Bool
@@ -16,31 +16,31 @@ lives size zero = []
 lives zero (suc n) = false ∷ lives zero n
 lives (suc size) (suc n) = true ∷ lives size n
 
-zero_least : (layout : Layout) → byte_number layout (Num 0) ≡ 0
+zero_least : (layout : Layout) → byte_number layout (Bits 0 0) ≡ 0
 unfolding number_of
 zero_least layout = omega arith
 
-pub bytes_are : (layout : Layout) → layout.blocks < 2 ^ 64 → AreThings (ByteIf layout) (byte_code layout) 5 zero_byte
+pub bytes_are : (layout : Layout) → layout.blocks < 2 ^ 64 → AreThings (ByteIf layout) (byte_code layout) 6 zero_byte
 bytes_are layout few = record {
   digits = λ k x fits. digits k x fits;
   fits = λ k x fits. zeros k;
   least = λ k x fits. zero_least layout;
 }
   where
-    digits : (k : Bool) (x : Byte) → ByteIf layout k x → Digits 5 (byte_code layout x)
+    digits : (k : Bool) (x : Byte) → ByteIf layout k x → Digits 6 (byte_code layout x)
     digits true x fits = byte_digits layout x few fits
-    digits false x fits = rw fits (byte_digits layout (Num 0) few (omega arith))
+    digits false x fits = rw fits (byte_digits layout (Bits 0 0) few (zero_fits layout))
 
-    zeros : (k : Bool) → ByteIf layout k (Num 0)
-    zeros true = omega arith
+    zeros : (k : Bool) → ByteIf layout k (Bits 0 0)
+    zeros true = zero_fits layout
     zeros false = refl
 
-row_from : (layout : Layout) (size k : ℕ) (bs : List Byte) → k + size ≡ length bs → drop size bs ≡ replicate k (Num 0) → BytesFit layout bs → RowFits (ByteIf layout) (lives size (length bs)) bs
+row_from : (layout : Layout) (size k : ℕ) (bs : List Byte) → k + size ≡ length bs → drop size bs ≡ replicate k (Bits 0 0) → BytesFit layout bs → RowFits (ByteIf layout) (lives size (length bs)) bs
 row_from layout size k [] long past fit = tt
 row_from layout zero zero (b ∷ bs) long past fit = absurd (omega (arith, long))
 row_from layout zero (suc k) (b ∷ bs) long past fit =
-    let here : b ≡ Num 0 = cc in
-    let rest : bs ≡ replicate k (Num 0) = cc in
+    let here : b ≡ Bits 0 0 = cc in
+    let rest : bs ≡ replicate k (Bits 0 0) = cc in
     (here, row_from layout zero k bs (omega (arith, long)) rest fit.1)
 row_from layout (suc size) k (b ∷ bs) long past fit = (fit.0, row_from layout size k bs (omega (arith, long)) past fit.1)
 
@@ -63,11 +63,11 @@ places_of_row layout (suc bytes) zero (b ∷ bs) row =
     let rest = places_of_row layout bytes zero bs row.1 in
     let here = row.0 in
     let few : suc bytes - 0 ≡ suc (bytes - 0) = omega arith in
-    let past : b ∷ bs ≡ Num 0 ∷ replicate (bytes - 0) (Num 0) = (let more = rest.past in cc) in
-    record { room = ap suc rest.room; past = rw few past; fit = ((rw here (omega arith)), rest.fit) }
+    let past : b ∷ bs ≡ Bits 0 0 ∷ replicate (bytes - 0) (Bits 0 0) = (let more = rest.past in cc) in
+    record { room = ap suc rest.room; past = rw few past; fit = (rw here (zero_fits layout), rest.fit) }
 places_of_row layout (suc bytes) (suc size) (b ∷ bs) row =
     let rest = places_of_row layout bytes size bs row.1 in
-    record { room = ap suc rest.room; past = rest.past ∙ ap (λ n. replicate n (Num 0)) (omega arith); fit = (row.0, rest.fit) }
+    record { room = ap suc rest.room; past = rest.past ∙ ap (λ n. replicate n (Bits 0 0)) (omega arith); fit = (row.0, rest.fit) }
 
 live_at : (size bytes i : ℕ) → i < size → size ≤ bytes → slice_get (lives size bytes) i ≡ Some true
 live_at zero bytes i below small = absurd (omega (arith, below))
@@ -107,9 +107,9 @@ next_bytes_is layout bytes size places old set_places result i b next few small 
     let live = live_at size bytes i below small in
     let is : result ≡ raised zero_byte old i next = zeros ∙ rw (raise, same) (raised_is zero_byte old i next) in
     let thing : IsNextThing (ByteIf layout) (byte_code layout) true b next = record { fits = step.fits; later = step.later; no_gap = step.no_gap } in
-    let code = next_row (ByteIf layout) (byte_code layout) 5 zero_byte things (lives size bytes) old i true b next row live here' thing last' in
+    let code = next_row (ByteIf layout) (byte_code layout) 6 zero_byte things (lives size bytes) old i true b next row live here' thing last' in
     rw is (record {
-      fits = places_of_row layout bytes size (raised zero_byte old i next) (raised_fits (ByteIf layout) (byte_code layout) 5 zero_byte things (lives size bytes) old i true next row live step.fits);
+      fits = places_of_row layout bytes size (raised zero_byte old i next) (raised_fits (ByteIf layout) (byte_code layout) 6 zero_byte things (lives size bytes) old i true next row live step.fits);
       later = code.later;
       no_gap = λ other other_fits less. code.no_gap (flat_map (byte_code layout) other) (record { things = other; is = refl; fits = row_of_places layout bytes size other small other_fits }) less;
     })
@@ -117,7 +117,7 @@ next_bytes_is layout bytes size places old set_places result i b next few small 
 pub last_bytes_is : (layout : Layout) (bytes size : ℕ) (places old : List Byte) (i : ℕ) → layout.blocks < 2 ^ 64 → size ≤ bytes → PlacesFit layout bytes size old → places ≡ old → BytesAreLast layout bytes size places i → i ≤ 0 → IsLastPlaces layout bytes size old
 last_bytes_is layout bytes size places old i few small fits same last none = λ other other_fits.
     let last' = rw same at last in
-    last_row (ByteIf layout) (byte_code layout) 5 zero_byte (bytes_are layout few) (lives size bytes) old (row_of_places layout bytes size old small fits)
+    last_row (ByteIf layout) (byte_code layout) 6 zero_byte (bytes_are layout few) (lives size bytes) old (row_of_places layout bytes size old small fits)
     (λ j k x from e e'. last' j k x (omega arith) e e')
     (flat_map (byte_code layout) other) (record { things = other; is = refl; fits = row_of_places layout bytes size other small other_fits })
 
@@ -131,7 +131,7 @@ zeros_fit layout bytes size places long = places_of_row layout bytes size (from_
     zeros_row size (suc bytes) [] long = absurd (omega (arith, long))
     zeros_row size zero (b ∷ bs) long = absurd (omega (arith, long))
     zeros_row zero (suc bytes) (b ∷ bs) long = (refl, zeros_row zero bytes bs (omega (arith, long)))
-    zeros_row (suc size) (suc bytes) (b ∷ bs) long = (omega arith, zeros_row size bytes bs (omega (arith, long)))
+    zeros_row (suc size) (suc bytes) (b ∷ bs) long = (zero_fits layout, zeros_row size bytes bs (omega (arith, long)))
 
 pub zeros_number : (layout : Layout) (places : List Byte) → places_number layout (from_place zero_byte 0 places) ≡ 0
 unfolding number_of

@@ -1,8 +1,7 @@
 -- Two points of one shape at one position in the order are one point.
-use Rattle.points.proofs.Common.{◌≡◌, ℕ, suc, ◌+◌, ◌*◌, ◌^◌, ◌<◌, ◌≤◌, List, [], ◌∷◌, ◌++◌, length, map, refl, sym, ap, ◌∙◌, arith, append_assoc, add-zero, flat_map, IrType, Int, Parameter, BlockName, Null, Given, Local, Ptr, Value, Num, Poison, Byte, MemoryBlock, Layout, Point, BlockFits, PointerFits, ValueFits, ArgsFit, ByteFits, BytesFit, IsGivenBlock, BlocksFit, WordsFit, name_digit, value_code, args_code, byte_code, places_code, blocks_code, code_of, place_of, PlacesTellPoints}
+use Rattle.points.proofs.Common.{◌≡◌, ℕ, zero, suc, ◌+◌, ◌*◌, ◌^◌, ◌<◌, ◌≤◌, nat_eq, Bool, true, false, if◌then◌else◌, List, [], ◌∷◌, ◌++◌, length, map, refl, sym, ap, ◌∙◌, arith, append_assoc, add-zero, flat_map, IrType, Int, Parameter, BlockName, Null, Given, Local, Ptr, Value, Num, Poison, Byte, Bits, Part, MemoryBlock, Layout, Point, BlockFits, PointerFits, ValueFits, ArgsFit, ByteFits, BytesFit, IsGivenBlock, BlocksFit, WordsFit, name_digit, value_code, args_code, byte_code, places_code, blocks_code, code_of, place_of, PlacesTellPoints}
 use Rattle.ir_tree.specs.declared.tree.IrType.TheVariants as type
 use Rattle.byte_block.specs.declared.value.Value.TheVariants as value
-use Rattle.byte_block.specs.declared.value.Byte.TheVariants as byte
 use Rattle.points.proofs.Order.{Digits, digits_as, number_of-same}
 use Rattle.points.proofs.Words.{WordsFit-digits}
 use Rattle.points.proofs.Args.{digits_of, args_digits, name_small, Digits-append}
@@ -27,12 +26,6 @@ same_pointer layout p q fits fits' e f = let b = same_block layout p.block q.blo
 
 zero_not_one : {A : Type 0} → ◌≡◌ {A = ℕ} 0 1 → A
 zero_not_one e = absurd (omega (arith, e))
-
-zero_not_two : {A : Type 0} → ◌≡◌ {A = ℕ} 0 2 → A
-zero_not_two e = absurd (omega (arith, e))
-
-one_not_two : {A : Type 0} → ◌≡◌ {A = ℕ} 1 2 → A
-one_not_two e = absurd (omega (arith, e))
 
 same_value : (layout : Layout) (t : IrType) (v v' : Value) (rest rest' : List ℕ) → ValueFits layout t v → ValueFits layout t v' → value_code layout t v ++ rest ≡ value_code layout t v' ++ rest' → Both v v' rest rest'
 same_value layout (Int w) (Num a) (Num b) rest rest' fits fits' e = let n : a ≡ b = cc in record { one = ap Num n; rest = cc }
@@ -70,20 +63,20 @@ same_args layout (p ∷ ps) (v ∷ vs) [] rest rest' fits fits' e = absurd fits'
 -- ---- bytes
 
 same_byte : (layout : Layout) (b b' : Byte) (rest rest' : List ℕ) → ByteFits layout b → ByteFits layout b' → byte_code layout b ++ rest ≡ byte_code layout b' ++ rest' → Both b b' rest rest'
-same_byte layout (byte.Num a) (byte.Num b) rest rest' fits fits' e = let n : a ≡ b = cc in record { one = ap byte.Num n; rest = cc }
-same_byte layout (byte.Part p i) (byte.Part q j) rest rest' fits fits' e =
+same_byte layout (Bits n m) (Bits n' m') rest rest' fits fits' e =
+    let number : n ≡ n' = cc in
+    let mask : m ≡ m' = cc in
+    record { one = λ x. Bits (number x) (mask x); rest = cc }
+same_byte layout (Part p i) (Part q j) rest rest' fits fits' e =
     let b : name_digit layout p.block ≡ name_digit layout q.block = cc in
     let o : p.offset ≡ q.offset = cc in
     let k : i ≡ j = cc in
     let s = same_pointer layout p q fits.0 fits'.0 b o in
-    record { one = λ x. byte.Part (s x) (k x); rest = cc }
-same_byte layout byte.Poison byte.Poison rest rest' fits fits' e = record { one = refl; rest = cc }
-same_byte layout (byte.Num a) (byte.Part q j) rest rest' fits fits' e = let f : ◌≡◌ {A = ℕ} 0 1 = cc in zero_not_one f
-same_byte layout (byte.Part p i) (byte.Num b) rest rest' fits fits' e = let f : ◌≡◌ {A = ℕ} 0 1 = cc in zero_not_one f
-same_byte layout (byte.Num a) byte.Poison rest rest' fits fits' e = let f : ◌≡◌ {A = ℕ} 0 2 = cc in zero_not_two f
-same_byte layout byte.Poison (byte.Num b) rest rest' fits fits' e = let f : ◌≡◌ {A = ℕ} 0 2 = cc in zero_not_two f
-same_byte layout (byte.Part p i) byte.Poison rest rest' fits fits' e = let f : ◌≡◌ {A = ℕ} 1 2 = cc in one_not_two f
-same_byte layout byte.Poison (byte.Part q j) rest rest' fits fits' e = let f : ◌≡◌ {A = ℕ} 1 2 = cc in one_not_two f
+    record { one = λ x. Part (s x) (k x); rest = cc }
+same_byte layout (Bits n zero) (Part q j) rest rest' fits fits' e = let f : ◌≡◌ {A = ℕ} 0 1 = cc in zero_not_one f
+same_byte layout (Bits n (suc m)) (Part q j) rest rest' fits fits' e = absurd (let f : suc m ≡ 0 = cc in omega (arith, f))
+same_byte layout (Part p i) (Bits n zero) rest rest' fits fits' e = let f : ◌≡◌ {A = ℕ} 0 1 = cc in zero_not_one f
+same_byte layout (Part p i) (Bits n (suc m)) rest rest' fits fits' e = absurd (let f : suc m ≡ 0 = cc in omega (arith, f))
 
 same_bytes : (layout : Layout) (bs bs' : List Byte) (rest rest' : List ℕ) → BytesFit layout bs → BytesFit layout bs' → length bs ≡ length bs' → flat_map (byte_code layout) bs ++ rest ≡ flat_map (byte_code layout) bs' ++ rest' → Both bs bs' rest rest'
 same_bytes layout [] [] rest rest' fits fits' long e = record { one = refl; rest = e }
@@ -134,32 +127,35 @@ blocks_count layout bs h = let e = BlocksFit-length layout 1 bs h in omega (arit
 
 -- ---- digits
 
-pub byte_digits : (layout : Layout) (b : Byte) → layout.blocks < 2 ^ 64 → ByteFits layout b → Digits 5 (byte_code layout b)
-byte_digits layout (byte.Num n) few fits = (omega arith, (omega (arith, fits), (omega arith, (omega arith, (omega arith, tt)))))
-byte_digits layout (byte.Part p i) few fits = (omega arith, (omega arith, (name_small layout p.block few fits.0.block, (fits.0.offset, ((let part = fits.1 in omega (arith, part)), tt)))))
-byte_digits layout byte.Poison few fits = (omega arith, (omega arith, (omega arith, (omega arith, (omega arith, tt)))))
+pub byte_digits : (layout : Layout) (b : Byte) → layout.blocks < 2 ^ 64 → ByteFits layout b → Digits 6 (byte_code layout b)
+byte_digits layout (Bits n m) few fits = (kind_small (nat_eq m 0), ((let mask = fits.1 in omega (arith, mask)), ((let number = fits.0 in omega (arith, number)), (omega arith, (omega arith, (omega arith, tt))))))
+  where
+    kind_small : (none : Bool) → (if none then 0 else 2) < 2 ^ 64
+    kind_small true = omega arith
+    kind_small false = omega arith
+byte_digits layout (Part p i) few fits = (omega arith, (omega arith, (omega arith, (name_small layout p.block few fits.0.block, (fits.0.offset, ((let part = fits.1 in omega (arith, part)), tt))))))
 
-pub bytes_digits : (layout : Layout) (bs : List Byte) → layout.blocks < 2 ^ 64 → BytesFit layout bs → Digits (length bs * 5) (flat_map (byte_code layout) bs)
-bytes_digits layout [] few fits = digits_as (0 * 5) 0 [] (omega arith) tt
-bytes_digits layout (b ∷ bs) few fits = digits_as (suc (length bs) * 5) (5 + length bs * 5) (flat_map (byte_code layout) (b ∷ bs)) (omega arith) (Digits-append 5 (length bs * 5) (byte_code layout b) (flat_map (byte_code layout) bs) (byte_digits layout b few fits.0) (bytes_digits layout bs few fits.1))
+pub bytes_digits : (layout : Layout) (bs : List Byte) → layout.blocks < 2 ^ 64 → BytesFit layout bs → Digits (length bs * 6) (flat_map (byte_code layout) bs)
+bytes_digits layout [] few fits = digits_as (0 * 6) 0 [] (omega arith) tt
+bytes_digits layout (b ∷ bs) few fits = digits_as (suc (length bs) * 6) (6 + length bs * 6) (flat_map (byte_code layout) (b ∷ bs)) (omega arith) (Digits-append 6 (length bs * 6) (byte_code layout b) (flat_map (byte_code layout) bs) (byte_digits layout b few fits.0) (bytes_digits layout bs few fits.1))
 
 pub sizes_digits : (layout : Layout) (number : ℕ) (bs : List MemoryBlock) → layout.bytes < 2 ^ 64 → BlocksFit layout number bs → Digits (length bs) (sizes_of bs)
 sizes_digits layout number [] short fits = tt
 sizes_digits layout number (b ∷ bs) short fits = ((let small = fits.0.small in omega (arith, small, short)), sizes_digits layout (number + 1) bs short fits.1)
 
-pub places_digits : (layout : Layout) (number : ℕ) (bs : List MemoryBlock) → layout.blocks < 2 ^ 64 → BlocksFit layout number bs → Digits (length bs * (layout.bytes * 5)) (flat_map (places_code layout) bs)
-places_digits layout number [] few fits = digits_as (0 * (layout.bytes * 5)) 0 [] (omega arith) tt
+pub places_digits : (layout : Layout) (number : ℕ) (bs : List MemoryBlock) → layout.blocks < 2 ^ 64 → BlocksFit layout number bs → Digits (length bs * (layout.bytes * 6)) (flat_map (places_code layout) bs)
+places_digits layout number [] few fits = digits_as (0 * (layout.bytes * 6)) 0 [] (omega arith) tt
 places_digits layout number (b ∷ bs) few fits =
-    let here : Digits (length b.places * 5) (places_code layout b) = bytes_digits layout b.places few fits.0.fit in
+    let here : Digits (length b.places * 6) (places_code layout b) = bytes_digits layout b.places few fits.0.fit in
     let here' = rw fits.0.room at here in
-    digits_as (suc (length bs) * (layout.bytes * 5)) (layout.bytes * 5 + length bs * (layout.bytes * 5)) (flat_map (places_code layout) (b ∷ bs)) (omega arith) (Digits-append (layout.bytes * 5) (length bs * (layout.bytes * 5)) (places_code layout b) (flat_map (places_code layout) bs) here' (places_digits layout (number + 1) bs few fits.1))
+    digits_as (suc (length bs) * (layout.bytes * 6)) (layout.bytes * 6 + length bs * (layout.bytes * 6)) (flat_map (places_code layout) (b ∷ bs)) (omega arith) (Digits-append (layout.bytes * 6) (length bs * (layout.bytes * 6)) (places_code layout b) (flat_map (places_code layout) bs) here' (places_digits layout (number + 1) bs few fits.1))
 
-pub blocks_digits : (layout : Layout) (bs : List MemoryBlock) → layout.blocks < 2 ^ 64 → layout.bytes < 2 ^ 64 → BlocksFit layout 1 bs → Digits (layout.blocks + layout.blocks * (layout.bytes * 5)) (blocks_code layout bs)
+pub blocks_digits : (layout : Layout) (bs : List MemoryBlock) → layout.blocks < 2 ^ 64 → layout.bytes < 2 ^ 64 → BlocksFit layout 1 bs → Digits (layout.blocks + layout.blocks * (layout.bytes * 6)) (blocks_code layout bs)
 blocks_digits layout bs few short fits =
     let count = blocks_count layout bs fits in
     let sizes = sizes_digits layout 1 bs short fits in
     let places = places_digits layout 1 bs few fits in
-    Digits-append layout.blocks (layout.blocks * (layout.bytes * 5)) (sizes_of bs) (flat_map (places_code layout) bs) (rw (← count) sizes) (rw (← count) places)
+    Digits-append layout.blocks (layout.blocks * (layout.bytes * 6)) (sizes_of bs) (flat_map (places_code layout) bs) (rw (← count) sizes) (rw (← count) places)
 
 -- ---- points
 
@@ -170,13 +166,13 @@ pub record Fits (layout : Layout) (words width : ℕ) (ps : List Parameter) (p :
   pub tape : WordsFit width words p.tape
 
 abbrev pub code_length : Layout → ℕ → List Parameter → ℕ
-code_length layout words ps = digits_of ps + (layout.blocks + layout.blocks * (layout.bytes * 5) + words)
+code_length layout words ps = digits_of ps + (layout.blocks + layout.blocks * (layout.bytes * 6) + words)
 
 pub code_digits : (layout : Layout) (words width : ℕ) (ps : List Parameter) (p : Point) → layout.blocks < 2 ^ 64 → layout.bytes < 2 ^ 64 → width ≤ 64 → Fits layout words width ps p → Digits (code_length layout words ps) (code_of layout ps p)
 code_digits layout words width ps p few short narrow fits =
-    Digits-append (digits_of ps) (layout.blocks + layout.blocks * (layout.bytes * 5) + words) (args_code layout ps p.input.args) (blocks_code layout p.input.blocks ++ p.tape)
+    Digits-append (digits_of ps) (layout.blocks + layout.blocks * (layout.bytes * 6) + words) (args_code layout ps p.input.args) (blocks_code layout p.input.blocks ++ p.tape)
     (args_digits layout ps p.input.args few fits.args)
-    (Digits-append (layout.blocks + layout.blocks * (layout.bytes * 5)) words (blocks_code layout p.input.blocks) p.tape (blocks_digits layout p.input.blocks few short fits.given) (WordsFit-digits width words p.tape narrow fits.tape))
+    (Digits-append (layout.blocks + layout.blocks * (layout.bytes * 6)) words (blocks_code layout p.input.blocks) p.tape (blocks_digits layout p.input.blocks few short fits.given) (WordsFit-digits width words p.tape narrow fits.tape))
 
 pub same_coded : (layout : Layout) (ps : List Parameter) (p q : Point) → ArgsFit layout ps p.input.args → ArgsFit layout ps q.input.args → BlocksFit layout 1 p.input.blocks → BlocksFit layout 1 q.input.blocks → code_of layout ps p ≡ code_of layout ps q → p ≡ q
 same_coded layout ps p q fit fit' given given' codes =

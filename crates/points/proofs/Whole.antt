@@ -30,7 +30,7 @@ abbrev IsPointCode : Shape → List ℕ → Type 0
 IsPointCode s ds = IsChain (IsArgsOf s.layout s.parameters) (FromSizes s) ds
 
 abbrev place_digits : Shape → ℕ
-place_digits s = s.layout.blocks * (s.layout.bytes * 5)
+place_digits s = s.layout.blocks * (s.layout.bytes * 6)
 
 -- the numbers of a shape's blocks and bytes fit a word
 pub record IsNarrow (s : Shape) : Type 0 where

@@ -1,5 +1,5 @@
 -- The code of a point: a list of numbers below 2 ^ 64 of a length that the shape fixes. Points are ordered by their codes, the first number most significant.
-use Rattle.std.specs.Prelude.{◌≡◌, ℕ, zero, suc, ◌+◌, ◌-◌, ◌*◌, ◌^◌, ◌<◌, ◌≤◌, List, [], ◌∷◌, ◌++◌, length, map, drop, replicate}
+use Rattle.std.specs.Prelude.{◌≡◌, ℕ, zero, suc, ◌+◌, ◌-◌, ◌*◌, ◌^◌, ◌<◌, ◌≤◌, nat_eq, if◌then◌else◌, bit_and, List, [], ◌∷◌, ◌++◌, length, map, drop, replicate}
 use Rattle.std.specs.List.{flat_map}
 use Rattle.ir_tree.specs.declared.tree.IrType.{IrType}
 use Rattle.ir_tree.specs.declared.tree.IrType.TheVariants as type
@@ -54,9 +54,8 @@ ArgsFit layout [] (v ∷ vs) = ⊥
 ArgsFit layout (p ∷ ps) [] = ⊥
 
 abbrev pub ByteFits : Layout → Byte → Type 0
-ByteFits layout (byte.Num n) = n < 2 ^ 8
+ByteFits layout (byte.Bits number mask) = (number < 2 ^ 8) × (mask < 2 ^ 8) × (bit_and number mask ≡ 0)
 ByteFits layout (byte.Part p i) = PointerFits layout p × (i ≤ 7)
-ByteFits layout byte.Poison = Unit {0}
 
 abbrev pub BytesFit : Layout → List Byte → Type 0
 BytesFit layout [] = Unit {0}
@@ -68,7 +67,7 @@ pub record IsGivenBlock (layout : Layout) (number : ℕ) (block : MemoryBlock) :
   pub aligned : block.align ≡ 16
   pub small : block.size ≤ layout.bytes
   pub room : length block.places ≡ layout.bytes
-  pub past : drop block.size block.places ≡ replicate (layout.bytes - block.size) (byte.Num 0)
+  pub past : drop block.size block.places ≡ replicate (layout.bytes - block.size) (byte.Bits 0 0)
   pub fit : BytesFit layout block.places
 
 -- the given blocks from this number on
@@ -105,11 +104,10 @@ abbrev pub args_code : Layout → List Parameter → List Value → List ℕ
 args_code layout (p ∷ ps) (v ∷ vs) = value_code layout p.of_type v ++ args_code layout ps vs
 args_code layout _ _ = []
 
--- the kind, the number, the pointer's block and offset, and the part's index; what isn't used is 0
+-- the kind, the mask, the number, the pointer's block and offset, and the part's index; what isn't used is 0. Bits without poison have the kind 0, a part of a pointer 1, and bits with poison 2
 abbrev pub byte_code : Layout → Byte → List ℕ
-byte_code layout (byte.Num n) = 0 ∷ n ∷ 0 ∷ 0 ∷ 0 ∷ []
-byte_code layout (byte.Part p i) = 1 ∷ 0 ∷ name_digit layout p.block ∷ p.offset ∷ i ∷ []
-byte_code layout byte.Poison = 2 ∷ 0 ∷ 0 ∷ 0 ∷ 0 ∷ []
+byte_code layout (byte.Bits number mask) = (if nat_eq mask 0 then 0 else 2) ∷ mask ∷ number ∷ 0 ∷ 0 ∷ 0 ∷ []
+byte_code layout (byte.Part p i) = 1 ∷ 0 ∷ 0 ∷ name_digit layout p.block ∷ p.offset ∷ i ∷ []
 
 -- a block's contents, past its size too
 abbrev pub places_code : Layout → MemoryBlock → List ℕ

@@ -1,5 +1,5 @@
 -- Which lists of numbers are codes of a shape. It speaks of numbers only, not of points.
-use Rattle.std.specs.Prelude.{◌≡◌, ◌⊎◌, ℕ, zero, suc, ◌^◌, ◌<◌, ◌≤◌, List, [], ◌∷◌, ◌++◌}
+use Rattle.std.specs.Prelude.{◌≡◌, ◌⊎◌, ℕ, zero, suc, ◌^◌, ◌<◌, ◌≤◌, bit_and, List, [], ◌∷◌, ◌++◌}
 use Rattle.ir_tree.specs.declared.tree.IrType.{IrType}
 use Rattle.ir_tree.specs.declared.tree.IrType.TheVariants.{Int, Ptr}
 use Rattle.ir_tree.specs.declared.tree.Parameter.{Parameter}
@@ -53,7 +53,7 @@ AreSizes layout (suc n) [] = ⊥
 -- the kind 0 and a number below 256
 pub record IsNumberByte (ds : List ℕ) : Type 0 where
   pub number : ℕ
-  pub is : ds ≡ 0 ∷ number ∷ 0 ∷ 0 ∷ 0 ∷ []
+  pub is : ds ≡ 0 ∷ 0 ∷ number ∷ 0 ∷ 0 ∷ 0 ∷ []
   pub small : number < 2 ^ 8
 
 -- the kind 1, a pointer's block and offset, and which of its eight parts
@@ -61,18 +61,28 @@ pub record IsPartByte (layout : Layout) (ds : List ℕ) : Type 0 where
   pub block : ℕ
   pub offset : ℕ
   pub part : ℕ
-  pub is : ds ≡ 1 ∷ 0 ∷ block ∷ offset ∷ part ∷ []
+  pub is : ds ≡ 1 ∷ 0 ∷ 0 ∷ block ∷ offset ∷ part ∷ []
   pub given : block ≤ layout.blocks
   pub small : offset < 2 ^ 64
   pub of_eight : part ≤ 7
 
--- a number, a part of a pointer, or poison: the kind 2 and zeros
-abbrev pub IsCodeOfByte : Layout → List ℕ → Type 0
-IsCodeOfByte layout ds = IsNumberByte ds ⊎ (IsPartByte layout ds ⊎ (ds ≡ 2 ∷ 0 ∷ 0 ∷ 0 ∷ 0 ∷ []))
+-- the kind 2, a mask above 0, and a number that has no bit of the mask
+pub record IsPoisonByte (ds : List ℕ) : Type 0 where
+  pub mask : ℕ
+  pub number : ℕ
+  pub is : ds ≡ 2 ∷ mask ∷ number ∷ 0 ∷ 0 ∷ 0 ∷ []
+  pub some : 0 < mask
+  pub within : mask < 2 ^ 8
+  pub small : number < 2 ^ 8
+  pub apart : bit_and number mask ≡ 0
 
--- the five numbers of an index past a block's size
+-- a number, a part of a pointer, or bits of which some are poison
+abbrev pub IsCodeOfByte : Layout → List ℕ → Type 0
+IsCodeOfByte layout ds = IsNumberByte ds ⊎ (IsPartByte layout ds ⊎ IsPoisonByte ds)
+
+-- the six numbers of an index past a block's size
 abbrev pub IsUnused : List ℕ → Type 0
-IsUnused ds = ds ≡ 0 ∷ 0 ∷ 0 ∷ 0 ∷ 0 ∷ []
+IsUnused ds = ds ≡ 0 ∷ 0 ∷ 0 ∷ 0 ∷ 0 ∷ 0 ∷ []
 
 -- the contents of a block with room for this number of bytes: bytes before the size, and unused indices from there on
 abbrev pub IsCodeOfPlaces : Layout → ℕ → ℕ → List ℕ → Type 0

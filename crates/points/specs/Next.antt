@@ -80,7 +80,7 @@ IsLastByte layout old = (b : Byte) → ByteFits layout b → byte_number layout 
 -- the contents of a block of this size that has room for `bytes` bytes: those past its size are the number 0
 pub record PlacesFit (layout : Layout) (bytes size : ℕ) (places : List Byte) : Type 0 where
   pub room : length places ≡ bytes
-  pub past : drop size places ≡ replicate (bytes - size) (byte.Num 0)
+  pub past : drop size places ≡ replicate (bytes - size) (byte.Bits 0 0)
   pub fit : BytesFit layout places
 
 abbrev pub places_number : Layout → List Byte → ℕ
@@ -135,7 +135,7 @@ from_place f zero (x ∷ xs) = f x ∷ from_place f zero xs
 from_place f (suc n) (x ∷ xs) = x ∷ from_place f n xs
 
 abbrev pub zero_byte : Byte → Byte
-zero_byte b = byte.Num 0
+zero_byte b = byte.Bits 0 0
 
 -- the block with zeros as its contents
 abbrev pub zero_places : MemoryBlock → MemoryBlock

@@ -40,15 +40,15 @@ abbrev pub args_from : List Parameter → List ℕ → List Value
 args_from [] ds = []
 args_from (p ∷ ps) ds = value_from p.of_type ds ∷ args_from ps (drop (value_length p.of_type) ds)
 
--- the byte whose five numbers come first
+-- the byte whose six numbers come first: a part of a pointer where the kind is 1, else bits
 abbrev pub byte_from : List ℕ → Byte
-byte_from (zero ∷ n ∷ rest) = byte.Num n
-byte_from (suc zero ∷ n ∷ block ∷ offset ∷ part ∷ rest) = byte.Part (pointer_from block offset) part
-byte_from _ = byte.Poison
+byte_from (suc zero ∷ mask ∷ number ∷ block ∷ offset ∷ part ∷ rest) = byte.Part (pointer_from block offset) part
+byte_from (kind ∷ mask ∷ number ∷ rest) = byte.Bits number mask
+byte_from _ = byte.Bits 0 0
 
 abbrev pub places_from : ℕ → List ℕ → List Byte
 places_from zero ds = []
-places_from (suc room) ds = byte_from ds ∷ places_from room (drop 5 ds)
+places_from (suc room) ds = byte_from ds ∷ places_from room (drop 6 ds)
 
 -- the given block of this number, with room for `room` bytes
 abbrev pub block_from : ℕ → ℕ → ℕ → List ℕ → MemoryBlock
@@ -57,26 +57,27 @@ block_from room number size ds = record { name = Given number; size = size; alig
 -- the given blocks of these sizes, from this number on
 abbrev pub blocks_from : Layout → ℕ → List ℕ → List ℕ → List MemoryBlock
 blocks_from layout number [] ds = []
-blocks_from layout number (size ∷ sizes) ds = block_from layout.bytes number size ds ∷ blocks_from layout (number + 1) sizes (drop (layout.bytes * 5) ds)
+blocks_from layout number (size ∷ sizes) ds = block_from layout.bytes number size ds ∷ blocks_from layout (number + 1) sizes (drop (layout.bytes * 6) ds)
 
 -- ---- where there are numbers to read
 
--- there are five numbers, and a byte's number and a part's index are below 2 ^ 8
+-- there are six numbers, and a byte's mask and number and a part's index are below 2 ^ 8
 pub record HasByte (ds : List ℕ) : Type 0 where
-  pub five : 5 ≤ length ds
-  pub number : slice_index ds 0 ≡ 0 → slice_index ds 1 < 2 ^ 8
-  pub part : slice_index ds 0 ≡ 1 → slice_index ds 4 < 2 ^ 8
+  pub six : 6 ≤ length ds
+  pub mask : slice_index ds 1 < 2 ^ 8
+  pub number : slice_index ds 2 < 2 ^ 8
+  pub part : slice_index ds 5 < 2 ^ 8
 
 -- `room` bytes
 abbrev pub HaveBytes : ℕ → List ℕ → Type 0
 HaveBytes zero ds = Unit {0}
-HaveBytes (suc room) ds = HasByte ds × HaveBytes room (drop 5 ds)
+HaveBytes (suc room) ds = HasByte ds × HaveBytes room (drop 6 ds)
 
 pub record HasPlaces (room : ℕ) (ds : List ℕ) : Type 0 where
-  pub enough : room * 5 ≤ length ds
+  pub enough : room * 6 ≤ length ds
   pub are_bytes : HaveBytes room ds
 
 -- the contents of a given block for each size
 abbrev pub HaveBlocks : Layout → List ℕ → List ℕ → Type 0
 HaveBlocks layout [] ds = Unit {0}
-HaveBlocks layout (size ∷ sizes) ds = HasPlaces layout.bytes ds × HaveBlocks layout sizes (drop (layout.bytes * 5) ds)
+HaveBlocks layout (size ∷ sizes) ds = HasPlaces layout.bytes ds × HaveBlocks layout sizes (drop (layout.bytes * 6) ds)

@@ -8,6 +8,7 @@ use Rattle.byte_block.specs.declared.value.Byte.{Byte}
 use Rattle.byte_block.specs.declared.value.Byte.TheVariants as byte
 use Rattle.byte_block.specs.declared.block.MemoryBlock.{MemoryBlock}
 use Rattle.memory_access.specs.Blocks.{equal_names, block_bytes}
+use Rattle.memory_access.specs.Bytes.{defined_bits}
 use Rattle.points.specs.declared.outcome.Outcome.{Outcome}
 use Rattle.points.specs.declared.outcome.Outcome.TheVariants.{Return, Ub, Beyond}
 
@@ -23,11 +24,12 @@ value_allows (value.Num a) (value.Num b) = nat_eq a b
 value_allows (value.Ptr p) (value.Ptr q) = same_pointer p.block p.offset q.block q.offset
 value_allows _ _ = false
 
+-- bits allow bits that are the same outside the source's mask, with a mask within it, and where all of them are poison also a part
 abbrev pub byte_allows : Byte → Byte → Bool
-byte_allows byte.Poison t = true
-byte_allows (byte.Num a) (byte.Num b) = nat_eq a b
+byte_allows (byte.Bits a m) (byte.Bits b n) = nat_eq (defined_bits n m) 0 && nat_eq (defined_bits a m) (defined_bits b m)
+byte_allows (byte.Bits a m) (byte.Part q j) = nat_eq m 255
 byte_allows (byte.Part p i) (byte.Part q j) = same_pointer p.block p.offset q.block q.offset && nat_eq i j
-byte_allows _ _ = false
+byte_allows (byte.Part p i) (byte.Bits b n) = false
 
 -- two lists of the same length, whose items pass the test at each index
 unfoldable pub pairs_pass : {A : Type 0} → (A → A → Bool) → List A → List A → Bool

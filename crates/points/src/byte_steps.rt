@@ -1,4 +1,4 @@
-ghost use Rattle.std.specs.Prelude.{◌≡◌, ◌+◌, ◌*◌, ◌^◌, ◌≤◌, IsTrue, IsFalse, length, MatchOption};
+ghost use Rattle.std.specs.Prelude.{◌≡◌, ℕ, ◌+◌, ◌*◌, ◌^◌, ◌<◌, ◌≤◌, bit_and, IsTrue, IsFalse, length, MatchOption};
 ghost use Rattle.points.specs.Code.{name_digit, BlockFits, PointerFits, ByteFits};
 ghost use Rattle.points.specs.Next.{pointer_number, IsNextByte, IsLastByte, PlacesFit, IsNextPlaces, IsLastPlaces, from_place, zero_byte};
 
@@ -47,8 +47,8 @@ pub fn next_pointer(pointer: Ptr, layout: &Layout) -> Option<Ptr>
     }
 }
 
-/// What comes after a part of a pointer: its next part, the first part of the next pointer, or
-/// poison.
+/// What comes after a part of a pointer: its next part, the first part of the next pointer, or the
+/// first byte with a bit that is poison.
 fn byte_behind(pointer: Ptr, part: u8, layout: &Layout) -> Byte
     requires { ByteFits layout.now (Byte.Part pointer part) }
     ensures { IsNextByte layout.now (Byte.Part pointer part) result }
@@ -58,31 +58,75 @@ fn byte_behind(pointer: Ptr, part: u8, layout: &Layout) -> Byte
     }
     match next_pointer(pointer, layout) {
         Some(next) => Byte::Part(next, 0),
-        None => Byte::Poison,
+        None => Byte::Bits { number: 0, mask: 1 },
     }
 }
 
-/// The next byte: the numbers, then the parts of pointers, then poison.
+/// The next number without a bit of the mask.
+fn number_apart(number: u8, mask: u8) -> Option<u8>
+    ensures { MatchOption result ((n : ℕ) → number < n → n < 2 ^ 8 → bit_and n mask ≡ 0 → ⊥) (λ next. (number < next) × (bit_and next mask ≡ 0) × ((n : ℕ) → number < n → n < next → bit_and n mask ≡ 0 → ⊥)) }
+{
+    for n in number..u8::MAX {
+        if (n + 1) & mask == 0 {
+            return Some(n + 1);
+        }
+    }
+    None
+}
+
+/// What comes after bits without poison: the next number, or the first part of a pointer.
+fn byte_behind_number(number: u8, layout: &Layout) -> Byte
+    ensures { IsNextByte layout.now (Byte.Bits number 0) result }
+{
+    if number < u8::MAX {
+        return Byte::Bits {
+            number: number + 1,
+            mask: 0,
+        };
+    }
+    Byte::Part(
+        Ptr {
+            block: BlockName::Null,
+            offset: 0,
+        },
+        0,
+    )
+}
+
+/// What comes after bits with poison: the next number without a bit of the mask, or the next mask
+/// with the number 0.
+fn byte_behind_mask(number: u8, mask: u8, layout: &Layout) -> Option<Byte>
+    requires some { 0 < mask }
+    requires fits { ByteFits layout.now (Byte.Bits number mask) }
+    ensures { MatchOption result (IsLastByte layout.now (Byte.Bits number mask)) (λ next. IsNextByte layout.now (Byte.Bits number mask) next) }
+{
+    if let Some(next) = number_apart(number, mask) {
+        return Some(Byte::Bits { number: next, mask });
+    }
+    if mask < u8::MAX {
+        return Some(Byte::Bits {
+            number: 0,
+            mask: mask + 1,
+        });
+    }
+    None
+}
+
+/// The next byte: bits without poison, then the parts of pointers, then bits with poison, by their
+/// masks.
 fn next_byte(byte: Byte, layout: &Layout) -> Option<Byte>
     requires { ByteFits layout.now byte }
     ensures { MatchOption result (IsLastByte layout.now byte) (λ next. IsNextByte layout.now byte next) }
 {
     match byte {
-        Byte::Num(number) => {
-            if number < u8::MAX {
-                Some(Byte::Num(number + 1))
+        Byte::Bits { number, mask } => {
+            if mask == 0 {
+                Some(byte_behind_number(number, layout))
             } else {
-                Some(Byte::Part(
-                    Ptr {
-                        block: BlockName::Null,
-                        offset: 0,
-                    },
-                    0,
-                ))
+                byte_behind_mask(number, mask, layout)
             }
         }
         Byte::Part(pointer, part) => Some(byte_behind(pointer, part, layout)),
-        Byte::Poison => None,
     }
 }
 
@@ -92,7 +136,7 @@ pub fn zero_bytes(places: &mut Sequence<Byte>, from: usize)
     ensures { places.new ≡ from_place zero_byte from places.old }
 {
     for i in from..places.len() {
-        places.set(i, Byte::Num(0));
+        places.set(i, Byte::Bits { number: 0, mask: 0 });
     }
 }
 

@@ -62,17 +62,20 @@ fn push_byte(code: &mut Vec<u64>, byte: Byte) -> Result<(), NoMemory>
     ensures { OnOk result ((layout : Layout) → code.new.items ≡ code.old.items ++ byte_code layout byte) }
 {
     match byte {
-        Byte::Num(number) => code.extend_from_slice(&[0, number as u64, 0, 0, 0])?,
+        Byte::Bits { number, mask } => {
+            let kind = if mask == 0 { 0 } else { 2 };
+            code.extend_from_slice(&[kind, mask as u64, number as u64, 0, 0, 0])?
+        }
         Byte::Part(pointer, part) => {
             code.extend_from_slice(&[
                 1,
+                0,
                 0,
                 name_number(pointer.block),
                 pointer.offset,
                 part as u64,
             ])?
         }
-        Byte::Poison => code.extend_from_slice(&[2, 0, 0, 0, 0])?,
     }
     Ok(())
 }
@@ -96,7 +99,7 @@ fn push_places(code: &mut Vec<u64>, memory: &[MemoryBlock]) -> Result<(), NoMemo
 }
 
 /// The code of a point of the shape: for each argument a flag, 1 for poison, and its number, or its
-/// block and offset; the sizes of the given blocks; five numbers for each byte that they have room
+/// block and offset; the sizes of the given blocks; six numbers for each byte that they have room
 /// for; the words of the tape.
 pub fn code_of(alloc: Global, point: &Point, shape: &Shape) -> Result<Vec<u64>, NoMemory>
     requires { IsOfShape shape.now point.now }

@@ -28,5 +28,5 @@ pub use outcome::Outcome;
 pub use point::{Bounds, Budget, Input, Layout, Point, Shape};
 pub use point_steps::next;
 pub use reading::point_of;
-pub use refinement::{blocks_are_allowed, refines, returned_is_allowed};
+pub use refinement::{blocks_are_allowed, byte_is_allowed, refines, returned_is_allowed};
 pub use steps::{next_args, next_words, zero_from};

@@ -81,22 +81,22 @@ fn args_with(
     Ok(Sequence::from_vec(args))
 }
 
-/// The byte whose five numbers come first.
+/// The byte whose six numbers come first.
 fn byte_at(digits: &[u64]) -> Byte
     requires { HasByte digits.now }
     ensures { result ≡ byte_from digits.now }
 {
-    if digits[0] == 0 {
-        return Byte::Num(digits[1] as u8);
-    }
     if digits[0] == 1 {
         let pointer = Ptr {
-            block: name_with(digits[2]),
-            offset: digits[3],
+            block: name_with(digits[3]),
+            offset: digits[4],
         };
-        return Byte::Part(pointer, digits[4] as u8);
+        return Byte::Part(pointer, digits[5] as u8);
     }
-    Byte::Poison
+    Byte::Bits {
+        number: digits[2] as u8,
+        mask: digits[1] as u8,
+    }
 }
 
 fn places_with(alloc: Global, digits: &[u64], room: u64) -> Result<Sequence<Byte>, NoMemory>
@@ -107,7 +107,7 @@ fn places_with(alloc: Global, digits: &[u64], room: u64) -> Result<Sequence<Byte
     let mut rest = digits;
     for _place in 0..room {
         places.push(byte_at(rest))?;
-        rest = rest.split_at(5).1;
+        rest = rest.split_at(6).1;
     }
     Ok(Sequence::from_vec(places))
 }
@@ -144,7 +144,7 @@ fn blocks_with(
     let mut rest = digits;
     for (i, size) in sizes.iter().enumerate() {
         blocks.push(block_with(alloc, rest, i as u64 + 1, *size, layout.bytes)?)?;
-        rest = rest.split_at(layout.bytes as usize * 5).1;
+        rest = rest.split_at(layout.bytes as usize * 6).1;
     }
     Ok(Sequence::from_vec(blocks))
 }

@@ -1,10 +1,11 @@
 ghost use Rattle.std.specs.Prelude.{◌≡◌, take};
 ghost use Rattle.memory_access.specs.Blocks.{block_bytes};
+ghost use Rattle.memory_access.specs.Bytes.{defined_bits};
 ghost use Rattle.points.specs.Refines.{same_pointer, value_allows, byte_allows, pairs_pass, block_allows, blocks_allow, returned_allows, is_refined};
 
 use crate::outcome::Outcome;
 use byte_block::{BlockName, Byte, MemoryBlock, Ptr, Value};
-use memory_access::{bytes_in, is_equal_name};
+use memory_access::{bytes_in, defined_bits, is_equal_name};
 
 /// Whether the source's outcome allows the target's. A run past the bounds allows and is allowed
 /// everything, undefined behaviour of the source allows everything, and poison allows every value
@@ -52,14 +53,18 @@ fn is_same_pointer(p: Ptr, q: Ptr) -> bool
     }
 }
 
-fn byte_is_allowed(source: Byte, target: Byte) -> bool
+/// Whether a byte that the source leaves allows the target's: a poison bit allows both bits, and a
+/// byte of which all bits are poison allows every byte.
+pub fn byte_is_allowed(source: Byte, target: Byte) -> bool
     ensures { result ≡ byte_allows source target }
 {
     match (source, target) {
-        (Byte::Poison, _) => true,
-        (Byte::Num(a), Byte::Num(b)) => a == b,
+        (Byte::Bits { number, mask }, Byte::Bits { number: n, mask: m }) => {
+            defined_bits(m, mask) == 0 && defined_bits(number, mask) == defined_bits(n, mask)
+        }
+        (Byte::Bits { mask, .. }, Byte::Part(..)) => mask == u8::MAX,
         (Byte::Part(p, i), Byte::Part(q, j)) => is_same_pointer(p, q) && i == j,
-        _ => false,
+        (Byte::Part(..), Byte::Bits { .. }) => false,
     }
 }
 

@@ -1,6 +1,6 @@
 -- What decides one fact decides another.
-use Rattle.refine_terms.proofs.Common.{ℕ, ◌≡◌, ◌≤◌, ◌↔◌, ◌⊎◌, inl, inr, Bool, true, ◌&&◌, ◌||◌, nat_le, List, sym, subst, ◌∙◌, TermId, Term, Keeps, Tests, IsTerm, bit_at, bit-later, is_term-later, Decides, and_from, or_left, or_right, or_cases}
-use Rattle.refine_terms.proofs.Truths.{and_left, and_right, at_most_says}
+use Rattle.refine_terms.proofs.Common.{ℕ, ◌≡◌, ◌≤◌, ◌↔◌, ◌⊎◌, inl, inr, Bool, true, ◌&&◌, ◌||◌, nat_le, List, sym, subst, ◌∙◌, TermId, Term, Keeps, Tests, IsTerm, bit_at, bit-later, is_term-later, keeps_trans, Decides, and_from, or_left, or_right, or_cases}
+use Rattle.refine_terms.proofs.Truths.{and_left, and_right, and_says, at_most_says}
 
 pub tested : (new : List Term) (id : TermId) (test : (ℕ → ℕ → ℕ) → Bool) (fact : (ℕ → ℕ → ℕ) → Type 0) → Tests new id test → ((v : ℕ → ℕ → ℕ) → (test v ≡ true) ↔ fact v) → Decides new id fact
 tested new id test fact t same = (
@@ -29,6 +29,26 @@ both_decide old new a b id F G p q t = (
     (λ f. t.says v ∙ and_from (bit_at v old a) (bit_at v old b) ((p.1 v).1 f.0) ((q.1 v).1 f.1)),
   ),
 )
+
+-- facts in a row, each tested after the one before it
+pub three_decide : (a b c d e : List Term) (one two three rest id : TermId) (F G H : (ℕ → ℕ → ℕ) → Type 0) → Keeps a b → Keeps b c → Keeps c d → Decides a one F → Decides b two G → Decides c three H
+    → Tests d rest (λ v. bit_at v c two && bit_at v c three) → Tests e id (λ v. bit_at v d one && bit_at v d rest) → Decides e id (λ v. F v × (G v × H v))
+three_decide a b c d e one two three rest id F G H kb kc kd p q r t t' =
+    both_decide d e one rest id F (λ v. G v × H v) (decides-later a d (keeps_trans a c d (keeps_trans a b c kb kc) kd) one F p) (both_decide c d two three rest G H (decides-later b c kc two G q) r t) t'
+
+pub four_decide : (a b c d e : List Term) (one two three four id : TermId) (F G H I : (ℕ → ℕ → ℕ) → Type 0) → Keeps a b → Keeps b c → Keeps c d
+    → Decides a one F → Decides b two G → Decides c three H → Decides d four I
+    → Tests e id (λ v. bit_at v d one && (bit_at v d two && (bit_at v d three && bit_at v d four))) → Decides e id (λ v. F v × (G v × (H v × I v)))
+four_decide a b c d e one two three four id F G H I kb kc kd p q r s t =
+    let k_bd = keeps_trans b c d kc kd in
+    let first = decides-later a d (keeps_trans a b d kb k_bd) one F p in
+    let second = decides-later b d k_bd two G q in
+    let third = decides-later c d kd three H r in
+    tested e id (λ v. bit_at v d one && (bit_at v d two && (bit_at v d three && bit_at v d four))) (λ v. F v × (G v × (H v × I v))) t
+    (λ v.
+    and_says (bit_at v d one) (bit_at v d two && (bit_at v d three && bit_at v d four)) (F v) (G v × (H v × I v)) (first.1 v)
+    (and_says (bit_at v d two) (bit_at v d three && bit_at v d four) (G v) (H v × I v) (second.1 v)
+    (and_says (bit_at v d three) (bit_at v d four) (H v) (I v) (third.1 v) (s.1 v))))
 
 pub either_decides : (old new : List Term) (a b id : TermId) (F G : (ℕ → ℕ → ℕ) → Type 0) → Decides old a F → Decides old b G → Tests new id (λ v. bit_at v old a || bit_at v old b) → Decides new id (λ v. F v ⊎ G v)
 either_decides old new a b id F G p q t = (

@@ -1,31 +1,28 @@
 -- The tests of contents, blocks and outcomes.
-use Rattle.refine_terms.proofs.Common.{ℕ, ◌≡◌, ◌<◌, ◌≤◌, ◌+◌, ◌-◌, Bool, true, false, not, ◌&&◌, ◌||◌, List, length, map, take, drop, get_or, nat_eq, nat_lt, refl, sym, ap, ◌∙◌, arith, byte_allows, block_allows, blocks_allow, pairs_pass, returned_allows, is_refined, TermId, Term, IsTerm, Keeps, Makes, Tests, bit_at, term_at, SymByte, Each, block_name, reading, value_at, AreSymBlocks, AreSymBytes, IsAlways, IsSymBlock, IsSymByte, SymFrame, block_at, byte_at, frame_of, memory_at, places_at, at-any, each-at, bit-later, block-later, byte-later, keeps_trans, memory-later, places-later, term-later, memory-always, eqb-true}
+use Rattle.refine_terms.proofs.Common.{ℕ, ◌≡◌, ◌↔◌, ◌<◌, ◌≤◌, ◌+◌, ◌-◌, Bool, true, false, not, ◌&&◌, ◌||◌, List, length, map, take, drop, get_or, nat_eq, nat_lt, refl, sym, ap, ◌∙◌, arith, byte_allows, block_allows, blocks_allow, pairs_pass, returned_allows, is_refined, TermId, Term, IsTerm, Keeps, Makes, Tests, bit_at, term_at, SymByte, Each, block_name, reading, value_at, AreSymBlocks, AreSymBytes, IsAlways, IsSymBlock, IsSymByte, SymFrame, block_at, byte_at, frame_of, memory_at, places_at, at-any, each-at, bit-later, block-later, byte-later, keeps_trans, memory-later, places-later, term-later, memory-always, eqb-true, eq-eqb}
 use Rattle.std.specs.Option.{option_map}
 use Rattle.mem_terms.specs.declared.blocks.SymBlock.{SymBlock}
 use Rattle.mem_terms.specs.declared.outcome.OutcomeTerms.{OutcomeTerms}
 use Rattle.mem_terms.specs.Outcomes.{IsOutcome, outcome_at}
-use Rattle.refine_terms.proofs.Truths.{and_left, and_right}
+use Rattle.refine_terms.proofs.Truths.{and_says}
 use Rattle.refine_terms.proofs.Refining.{blocks_are, blocks_done, block_step, byte_allows-same, covered_is, place_step, places_begin, places_done, tests_more}
 
-id_is : (a b : TermId) → nat_eq a.index b.index ≡ true → a ≡ b
-id_is a b e = ap (λ (i : ℕ). record { index = i }) (eqb-true a.index b.index e)
+ids_say : (a b : TermId) → (nat_eq a.index b.index ≡ true) ↔ (a ≡ b)
+ids_say a b = ((λ e. ap (λ (i : ℕ). record { index = i }) (eqb-true a.index b.index e)), (λ e. eq-eqb a.index b.index (ap (λ (x : TermId). x.index) e)))
+
+abbrev byte_from : (is_part mask number block offset part : TermId) → SymByte
+byte_from is_part mask number block offset part = record { is_part = is_part; mask = mask; number = number; block = block; offset = offset; part = part }
+
+same_terms : (a b c d e f a' b' c' d' e' f' : TermId) → a ≡ a' → b ≡ b' → c ≡ c' → d ≡ d' → e ≡ e' → f ≡ f' → byte_from a b c d e f ≡ byte_from a' b' c' d' e' f'
+same_terms a b c d e f a' b' c' d' e' f' ea eb ec ed ee ef = rw (ea, eb, ec, ed, ee, ef) refl
 
 -- two bytes whose terms are equal
-pub terms_same : (s t : SymByte) → (nat_eq s.kind.index t.kind.index && (nat_eq s.number.index t.number.index && (nat_eq s.block.index t.block.index && (nat_eq s.offset.index t.offset.index && nat_eq s.part.index t.part.index)))) ≡ true → s ≡ t
+pub terms_same : (s t : SymByte)
+    → (nat_eq s.is_part.index t.is_part.index && (nat_eq s.mask.index t.mask.index && (nat_eq s.number.index t.number.index && (nat_eq s.block.index t.block.index && (nat_eq s.offset.index t.offset.index && nat_eq s.part.index t.part.index))))) ≡ true → s ≡ t
 terms_same s t h =
-    let h1 = and_right (nat_eq s.kind.index t.kind.index) (nat_eq s.number.index t.number.index && (nat_eq s.block.index t.block.index && (nat_eq s.offset.index t.offset.index && nat_eq s.part.index t.part.index))) h in
-    let h2 = and_right (nat_eq s.number.index t.number.index) (nat_eq s.block.index t.block.index && (nat_eq s.offset.index t.offset.index && nat_eq s.part.index t.part.index)) h1 in
-    let h3 = and_right (nat_eq s.block.index t.block.index) (nat_eq s.offset.index t.offset.index && nat_eq s.part.index t.part.index) h2 in
-    let kind : s.kind ≡ t.kind = id_is s.kind t.kind (and_left (nat_eq s.kind.index t.kind.index) (nat_eq s.number.index t.number.index && (nat_eq s.block.index t.block.index && (nat_eq s.offset.index t.offset.index && nat_eq s.part.index t.part.index))) h) in
-    let number : s.number ≡ t.number = id_is s.number t.number (and_left (nat_eq s.number.index t.number.index) (nat_eq s.block.index t.block.index && (nat_eq s.offset.index t.offset.index && nat_eq s.part.index t.part.index)) h1) in
-    let block : s.block ≡ t.block = id_is s.block t.block (and_left (nat_eq s.block.index t.block.index) (nat_eq s.offset.index t.offset.index && nat_eq s.part.index t.part.index) h2) in
-    let offset : s.offset ≡ t.offset = id_is s.offset t.offset (and_left (nat_eq s.offset.index t.offset.index) (nat_eq s.part.index t.part.index) h3) in
-    let part : s.part ≡ t.part = id_is s.part t.part (and_right (nat_eq s.offset.index t.offset.index) (nat_eq s.part.index t.part.index) h3) in
-    ap (λ (x : TermId). record { kind = x; number = s.number; block = s.block; offset = s.offset; part = s.part }) kind
-    ∙ (ap (λ (x : TermId). record { kind = t.kind; number = x; block = s.block; offset = s.offset; part = s.part }) number
-    ∙ (ap (λ (x : TermId). record { kind = t.kind; number = t.number; block = x; offset = s.offset; part = s.part }) block
-    ∙ (ap (λ (x : TermId). record { kind = t.kind; number = t.number; block = t.block; offset = x; part = s.part }) offset
-    ∙ ap (λ (x : TermId). record { kind = t.kind; number = t.number; block = t.block; offset = t.offset; part = x }) part)))
+    let rest = and_says _ _ _ _ (ids_say s.block t.block) (and_says _ _ _ _ (ids_say s.offset t.offset) (ids_say s.part t.part)) in
+    let all = (and_says _ _ _ _ (ids_say s.is_part t.is_part) (and_says _ _ _ _ (ids_say s.mask t.mask) (and_says _ _ _ _ (ids_say s.number t.number) rest))).0 h in
+    same_terms s.is_part s.mask s.number s.block s.offset s.part t.is_part t.mask t.number t.block t.offset t.part all.0 all.1.0 all.1.1.0 all.1.1.1.0 all.1.1.1.1.0 all.1.1.1.1.1
 
 pub byte_is_same : (given : ℕ) (old new : List Term) (s t : SymByte) (id : TermId) → s ≡ t → Tests new id (λ _. true) → Tests new id (λ v. byte_allows (byte_at (reading given v) old s) (byte_at (reading given v) old t))
 byte_is_same given old new s t id e k = record {
@@ -38,7 +35,7 @@ byte_is_same given old new s t id e k = record {
 
 -- the default where a list has no byte
 abbrev pub no_sym_byte : SymByte
-no_sym_byte = record { kind = record { index = 0 }; number = record { index = 0 }; block = record { index = 0 }; offset = record { index = 0 }; part = record { index = 0 } }
+no_sym_byte = record { is_part = record { index = 0 }; mask = record { index = 0 }; number = record { index = 0 }; block = record { index = 0 }; offset = record { index = 0 }; part = record { index = 0 } }
 
 -- the contents from an index on, before the size
 abbrev pub places_pass : (given : ℕ) → (ℕ → ℕ → ℕ) → List Term → TermId → ℕ → List SymByte → List SymByte → Bool

@@ -49,7 +49,7 @@ blocks_long v old layout [] [] count h ds c = rw c refl
 blocks_long v old layout [] (x ∷ xs) count h ds c = absurd (omega (arith, count))
 blocks_long v old layout (s ∷ ss) [] count h ds c = absurd (omega (arith, count))
 blocks_long v old layout (s ∷ ss) (x ∷ xs) count h ds c =
-    let here : length c.front ≡ length (block_numbers v old x) = places_long layout layout.bytes s c.front c.in_front ∙ sym (block_long v old x ∙ ap (λ n. n * 5) h.0.count) in
+    let here : length c.front ≡ length (block_numbers v old x) = places_long layout layout.bytes s c.front c.in_front ∙ sym (block_long v old x ∙ ap (λ n. n * 6) h.0.count) in
     let more = blocks_long v old layout ss xs (omega (arith, count)) h.1 c.back c.in_back in
     rw (c.whole, length-append, length-append) (rw (here, more) refl)
 

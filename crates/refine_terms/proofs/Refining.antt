@@ -1,5 +1,5 @@
 -- The test of coverage is refinement.
-use Rattle.refine_terms.proofs.Common.{ℕ, zero, suc, ◌≡◌, ◌<◌, ◌≤◌, ◌+◌, ◌-◌, ◌/◌, ◌%◌, ◌^◌, Bool, true, false, cond, not, ◌&&◌, ◌||◌, List, [], ◌∷◌, length, map, take, drop, get_or, nat_eq, nat_lt, Option, refl, sym, ap, ◌∙◌, arith, eq-eqb, eqb-true, both_ways, nat_tests, drop_more, drop_all, same_pointer, byte_allows, block_allows, blocks_allow, pairs_pass, value_allows, returned_allows, is_refined, truth, block_name, first_local, value_of, byte_of}
+use Rattle.refine_terms.proofs.Common.{ℕ, zero, suc, ◌≡◌, ◌<◌, ◌≤◌, ◌+◌, ◌-◌, ◌/◌, ◌%◌, ◌^◌, Bool, true, false, cond, not, ◌&&◌, ◌||◌, List, [], ◌∷◌, length, map, take, drop, get_or, nat_eq, nat_lt, Option, refl, sym, ap, ◌∙◌, arith, eq-eqb, eqb-true, nat_tests, drop_more, drop_all, same_pointer, byte_allows, block_allows, blocks_allow, pairs_pass, value_allows, returned_allows, is_refined, truth, block_name, first_local, value_of, byte_of}
 use Rattle.byte_block.specs.declared.value.Value.{Value}
 use Rattle.byte_block.specs.declared.value.BlockName.{BlockName}
 use Rattle.byte_block.specs.declared.value.BlockName.TheVariants.{Null, Given, Local}
@@ -9,6 +9,8 @@ use Rattle.byte_block.specs.declared.block.MemoryBlock.{MemoryBlock}
 use Rattle.points.specs.declared.outcome.Outcome.{Outcome}
 use Rattle.points.specs.declared.outcome.Outcome.TheVariants.{Return, Ub, Beyond}
 use Rattle.memory_access.specs.Blocks.{equal_names}
+use Rattle.memory_access.specs.Bytes.{defined_bits}
+use Rattle.memory_access.proofs.Masks.{defined-again, defined-own}
 use Rattle.mem_terms.proofs.Naming.{block_before, local_block}
 
 -- ---- pointers
@@ -106,32 +108,16 @@ values_are false false (suc zero) (suc (suc j)) bs bt m n p q = absurd (omega (a
 -- ---- bytes
 
 pub byte_allows-same : (b : Byte) → byte_allows b b ≡ true
-byte_allows-same byte.Poison = refl
-byte_allows-same (byte.Num n) = eq-eqb n n refl
+byte_allows-same (byte.Bits n m) = rw (defined-own m, eq-eqb (defined_bits n m) (defined_bits n m) refl) refl
 byte_allows-same (byte.Part p i) = rw (same_pointer-same p.block p.offset, eq-eqb i i refl) refl
 
-past_one : (k : ℕ) → (nat_eq (suc (suc k)) 0 ≡ false) × (nat_eq (suc (suc k)) 1 ≡ false) × (nat_eq 0 (suc (suc k)) ≡ false) × (nat_eq 1 (suc (suc k)) ≡ false)
-past_one k = (grind (arith, nat_tests), grind (arith, nat_tests), grind (arith, nat_tests), grind (arith, nat_tests))
-
-pub bytes_are : (k l m n p q : ℕ) (bs bt : BlockName) (i j : ℕ)
-    → (not (nat_eq k 0 || nat_eq k 1) || (nat_eq k l && cond (nat_eq k 0) (nat_eq m n) (same_pointer bs i bt j && nat_eq p q)))
-    ≡ byte_allows (byte_of k m (record { block = bs; offset = i }) p) (byte_of l n (record { block = bt; offset = j }) q)
-bytes_are zero zero m n p q bs bt i j = refl
-bytes_are zero (suc zero) m n p q bs bt i j = refl
-bytes_are zero (suc (suc l)) m n p q bs bt i j = let e = past_one l in rw (e.2, e.0, e.1) refl
-bytes_are (suc zero) zero m n p q bs bt i j = refl
-bytes_are (suc zero) (suc zero) m n p q bs bt i j = refl
-bytes_are (suc zero) (suc (suc l)) m n p q bs bt i j = let e = past_one l in rw (e.3, e.0, e.1) refl
-bytes_are (suc (suc k)) l m n p q bs bt i j = let e = past_one k in rw (e.0, e.1) refl
-
--- a byte that is no part
-pub number_bytes_are : (k l m n p q : ℕ) (bs bt : BlockName) (i j : ℕ) → nat_eq k 1 ≡ false
-    → (not (nat_eq k 0) || (nat_eq k l && nat_eq m n)) ≡ byte_allows (byte_of k m (record { block = bs; offset = i }) p) (byte_of l n (record { block = bt; offset = j }) q)
-number_bytes_are zero zero m n p q bs bt i j h = refl
-number_bytes_are zero (suc zero) m n p q bs bt i j h = refl
-number_bytes_are zero (suc (suc l)) m n p q bs bt i j h = let e = past_one l in rw (e.2, e.0, e.1) refl
-number_bytes_are (suc zero) l m n p q bs bt i j h = absurd (both_ways true h refl)
-number_bytes_are (suc (suc k)) l m n p q bs bt i j h = let e = past_one k in rw (e.0, e.1) refl
+pub bytes_are : (s t : Bool) (m n a b p q : ℕ) (bs bt : BlockName) (i j : ℕ)
+    → cond s (t && (same_pointer bs i bt j && nat_eq p q)) (cond t (nat_eq m 255) (nat_eq (defined_bits n m) 0 && nat_eq (defined_bits a m) (defined_bits (defined_bits b n) m)))
+    ≡ byte_allows (byte_of s m a (record { block = bs; offset = i }) p) (byte_of t n b (record { block = bt; offset = j }) q)
+bytes_are true true m n a b p q bs bt i j = refl
+bytes_are true false m n a b p q bs bt i j = refl
+bytes_are false true m n a b p q bs bt i j = refl
+bytes_are false false m n a b p q bs bt i j = rw (defined-again a m) refl
 
 -- ---- lists of pairs
 

@@ -5,7 +5,7 @@ use Rattle.refine_terms.proofs.ByteKinds.{byte-later}
 
 -- the default where a list has no byte
 abbrev pub no_byte : ByteTerms
-no_byte = record { kind = record { index = 0 }; number = record { index = 0 }; block = record { index = 0 }; offset = record { index = 0 }; part = record { index = 0 } }
+no_byte = record { kind = record { index = 0 }; mask = record { index = 0 }; number = record { index = 0 }; block = record { index = 0 }; offset = record { index = 0 }; part = record { index = 0 } }
 
 pub if_equal : {A : Type 0} (P : A → Type 0) (x y : A) → x ≡ y → P x ↔ P y
 if_equal P x y e = ((λ h. subst P e h), (λ h. subst P (sym e) h))
@@ -70,22 +70,22 @@ chain_parts P Q front back long = (
 
 -- ---- contents
 
-byte_long : (layout : Layout) (ds : List ℕ) → IsCodeOfByte layout ds → length ds ≡ 5
+byte_long : (layout : Layout) (ds : List ℕ) → IsCodeOfByte layout ds → length ds ≡ 6
 byte_long layout ds (inl n) = rw n.is refl
 byte_long layout ds (inr (inl p)) = rw p.is refl
-byte_long layout ds (inr (inr e)) = rw e refl
+byte_long layout ds (inr (inr p)) = rw p.is refl
 
-unused_long : (ds : List ℕ) → IsUnused ds → length ds ≡ 5
+unused_long : (ds : List ℕ) → IsUnused ds → length ds ≡ 6
 unused_long ds e = rw e refl
 
-place_more : (layout : Layout) (room size : ℕ) (p : Bool) (front back : List ℕ) → length front ≡ 5 → (p ≡ true → size ≡ 0) → (p ≡ false → 0 < size)
+place_more : (layout : Layout) (room size : ℕ) (p : Bool) (front back : List ℕ) → length front ≡ 6 → (p ≡ true → size ≡ 0) → (p ≡ false → 0 < size)
     → IsCodeOfPlaces layout (suc room) size (front ++ back) ↔ (IsCodeOfPlace layout p front × IsCodeOfPlaces layout room (size - 1) back)
-place_more layout room zero true front back five past inside = chain_parts IsUnused (λ place rest. IsCodeOfPlaces layout room zero rest) front back (λ ds h. unused_long ds h ∙ sym five)
-place_more layout room zero false front back five past inside = absurd (let x = inside refl in omega (arith, x))
-place_more layout room (suc size) true front back five past inside = absurd (let x = past refl in omega (arith, x))
-place_more layout room (suc size) false front back five past inside =
+place_more layout room zero true front back six past inside = chain_parts IsUnused (λ place rest. IsCodeOfPlaces layout room zero rest) front back (λ ds h. unused_long ds h ∙ sym six)
+place_more layout room zero false front back six past inside = absurd (let x = inside refl in omega (arith, x))
+place_more layout room (suc size) true front back six past inside = absurd (let x = past refl in omega (arith, x))
+place_more layout room (suc size) false front back six past inside =
     let e : suc size - 1 ≡ size = omega arith in
-    rw e (chain_parts (IsCodeOfByte layout) (λ place rest. IsCodeOfPlaces layout room size rest) front back (λ ds h. byte_long layout ds h ∙ sym five))
+    rw e (chain_parts (IsCodeOfByte layout) (λ place rest. IsCodeOfPlaces layout room size rest) front back (λ ds h. byte_long layout ds h ∙ sym six))
 
 past_size : (size i : ℕ) → nat_le size i ≡ true → size - i ≡ 0
 past_size size i t = grind (arith, nat_tests)
@@ -93,13 +93,13 @@ past_size size i t = grind (arith, nat_tests)
 inside_size : (size i : ℕ) → nat_le size i ≡ false → 0 < size - i
 inside_size size i t = grind (arith, nat_tests)
 
-places_more : {A : Type 0} (layout : Layout) (size i : ℕ) (f : A → List ℕ) (xs : List A) (d : A) → i < length xs → ((x : A) → length (f x) ≡ 5)
+places_more : {A : Type 0} (layout : Layout) (size i : ℕ) (f : A → List ℕ) (xs : List A) (d : A) → i < length xs → ((x : A) → length (f x) ≡ 6)
     → IsCodeOfPlaces layout (length xs - i) (size - i) (flat_map f (drop i xs)) ↔ (IsCodeOfPlace layout (nat_le size i) (f (get_or xs i d)) × IsCodeOfPlaces layout (length xs - (i + 1)) (size - (i + 1)) (flat_map f (drop (i + 1) xs)))
-places_more layout size i f xs d lt five =
+places_more layout size i f xs d lt six =
     let room : length xs - i ≡ suc (length xs - (i + 1)) = omega (arith, lt) in
     let less : (size - i) - 1 ≡ size - (i + 1) = omega arith in
     let more : drop i xs ≡ get_or xs i d ∷ drop (i + 1) xs = drop_more xs i d lt in
-    let main = place_more layout (length xs - (i + 1)) (size - i) (nat_le size i) (f (get_or xs i d)) (flat_map f (drop (i + 1) xs)) (five (get_or xs i d)) (past_size size i) (inside_size size i) in
+    let main = place_more layout (length xs - (i + 1)) (size - i) (nat_le size i) (f (get_or xs i d)) (flat_map f (drop (i + 1) xs)) (six (get_or xs i d)) (past_size size i) (inside_size size i) in
     rw (room, more) (rw less at main)
 
 pub place_row : (old a b c : List Term) (xs : List ByteTerms) (i : ℕ) (layout : Layout) (size : TermId) (d : ByteTerms) (all one next : TermId) → Each (IsByteTerms old) xs → IsNarrow old size → i < length xs → Keeps old a → Keeps a b → IsTerm a 1 all
@@ -130,22 +130,22 @@ places_end layout size i old v xs le =
 
 -- ---- blocks
 
-pub places_long : (layout : Layout) (room size : ℕ) (ds : List ℕ) → IsCodeOfPlaces layout room size ds → length ds ≡ room * 5
+pub places_long : (layout : Layout) (room size : ℕ) (ds : List ℕ) → IsCodeOfPlaces layout room size ds → length ds ≡ room * 6
 places_long layout zero size ds h = rw h refl
 places_long layout (suc room) zero ds h =
     let rest = places_long layout room zero h.back h.in_back in
-    let five = unused_long h.front h.in_front in
-    rw (h.whole, length-append) (omega (arith, rest, five))
+    let six = unused_long h.front h.in_front in
+    rw (h.whole, length-append) (omega (arith, rest, six))
 places_long layout (suc room) (suc size) ds h =
     let rest = places_long layout room size h.back h.in_back in
-    let five = byte_long layout h.front h.in_front in
-    rw (h.whole, length-append) (omega (arith, rest, five))
+    let six = byte_long layout h.front h.in_front in
+    rw (h.whole, length-append) (omega (arith, rest, six))
 
-pub block_long : (v : ℕ → ℕ → ℕ) (old : List Term) (xs : List ByteTerms) → length (block_numbers v old xs) ≡ length xs * 5
+pub block_long : (v : ℕ → ℕ → ℕ) (old : List Term) (xs : List ByteTerms) → length (block_numbers v old xs) ≡ length xs * 6
 block_long v old [] = refl
 block_long v old (x ∷ xs) = let rest = block_long v old xs in omega (arith, rest)
 
-blocks_more : {A B : Type 0} (layout : Layout) (i : ℕ) (f : A → List ℕ) (g : B → ℕ) (xs : List A) (ss : List B) (d : A) (e : B) → i < length ss → length ss ≡ length xs → length (f (get_or xs i d)) ≡ layout.bytes * 5
+blocks_more : {A B : Type 0} (layout : Layout) (i : ℕ) (f : A → List ℕ) (g : B → ℕ) (xs : List A) (ss : List B) (d : A) (e : B) → i < length ss → length ss ≡ length xs → length (f (get_or xs i d)) ≡ layout.bytes * 6
     → IsCodeOfBlocks layout (map g (drop i ss)) (flat_map f (drop i xs)) ↔ (IsCodeOfPlaces layout layout.bytes (g (get_or ss i e)) (f (get_or xs i d)) × IsCodeOfBlocks layout (map g (drop (i + 1) ss)) (flat_map f (drop (i + 1) xs)))
 blocks_more layout i f g xs ss d e lt count long =
     let more : drop i xs ≡ get_or xs i d ∷ drop (i + 1) xs = drop_more xs i d (omega (arith, lt, count)) in
@@ -173,8 +173,8 @@ block_row old a b c xs ss i layout x e all one next count narrow are lt is ka kb
     (λ v. IsCodeOfBlocks layout (map (term_at v old) (drop (i + 1) ss)) (flat_map (block_numbers v old) (drop (i + 1) xs)))
     (λ v. IsCodeOfBlocks layout (map (term_at v old) ss) (flat_map (block_numbers v old) xs)) kb h so one_is t
     (λ v.
-    let long : length (block_numbers v old x) ≡ layout.bytes * 5 = block_long v old x ∙ ap (λ n. n * 5) here.count in
-    let more = blocks_more layout i (block_numbers v old) (term_at v old) xs ss x e lt count (subst (λ y. length (block_numbers v old y) ≡ layout.bytes * 5) is long) in
+    let long : length (block_numbers v old x) ≡ layout.bytes * 6 = block_long v old x ∙ ap (λ n. n * 6) here.count in
+    let more = blocks_more layout i (block_numbers v old) (term_at v old) xs ss x e lt count (subst (λ y. length (block_numbers v old y) ≡ layout.bytes * 6) is long) in
     rw (term-later old a ka v (get_or ss i e) (each_get (IsNarrow old) ss i e narrow lt).within, block-later old a ka x here.are v, here.count)
     (rw (← is) at more))
 

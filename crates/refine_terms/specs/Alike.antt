@@ -1,5 +1,6 @@
--- What two values, or two bytes, that are not poison are compared by.
+-- What two values that are not poison, or two bytes, are compared by.
 use Rattle.std.specs.Prelude.{ℕ, Bool, cond, ◌&&◌, nat_eq, List}
+use Rattle.memory_access.specs.Bytes.{defined_bits}
 use Rattle.points.specs.Refines.{same_pointer}
 use Rattle.bv_terms.specs.declared.term.TermId.{TermId}
 use Rattle.bv_terms.specs.declared.term.Term.{Term}
@@ -23,6 +24,10 @@ alike_values given v terms s t = nat_eq (term_at v terms s.is_pointer) (term_at 
 abbrev pub alike_parts : ℕ → (ℕ → ℕ → ℕ) → List Term → SymByte → SymByte → Bool
 alike_parts given v terms s t = alike_pointers given v terms s.block s.offset t.block t.offset && nat_eq (term_at v terms s.part) (term_at v terms t.part)
 
--- the numbers where the first is one, else the parts
-abbrev pub alike_bytes : ℕ → (ℕ → ℕ → ℕ) → List Term → SymByte → SymByte → Bool
-alike_bytes given v terms s t = cond (nat_eq (term_at v terms s.kind) 0) (nat_eq (term_at v terms s.number) (term_at v terms t.number)) (alike_parts given v terms s t)
+-- the bits that aren't in the first mask are the same; what a number has in a bit of its mask has no meaning
+abbrev pub alike_numbers : (ℕ → ℕ → ℕ) → List Term → SymByte → SymByte → Bool
+alike_numbers v terms s t = nat_eq (defined_bits (term_at v terms s.number) (term_at v terms s.mask)) (defined_bits (defined_bits (term_at v terms t.number) (term_at v terms t.mask)) (term_at v terms s.mask))
+
+-- and the second mask lies within the first
+abbrev pub alike_bits : (ℕ → ℕ → ℕ) → List Term → SymByte → SymByte → Bool
+alike_bits v terms s t = nat_eq (defined_bits (term_at v terms t.mask) (term_at v terms s.mask)) 0 && alike_numbers v terms s t

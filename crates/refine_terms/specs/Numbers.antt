@@ -19,7 +19,7 @@ arg_numbers v terms (arg.Int flag number) = term_at v terms flag ∷ term_at v t
 arg_numbers v terms (arg.Ptr flag block offset) = term_at v terms flag ∷ term_at v terms block ∷ term_at v terms offset ∷ []
 
 abbrev pub byte_numbers : (ℕ → ℕ → ℕ) → List Term → ByteTerms → List ℕ
-byte_numbers v terms b = term_at v terms b.kind ∷ term_at v terms b.number ∷ term_at v terms b.block ∷ term_at v terms b.offset ∷ term_at v terms b.part ∷ []
+byte_numbers v terms b = term_at v terms b.kind ∷ term_at v terms b.mask ∷ term_at v terms b.number ∷ term_at v terms b.block ∷ term_at v terms b.offset ∷ term_at v terms b.part ∷ []
 
 -- a block's contents, one byte after the other
 abbrev pub block_numbers : (ℕ → ℕ → ℕ) → List Term → List ByteTerms → List ℕ

@@ -1,10 +1,11 @@
 //! Whether one outcome allows another.
 
-ghost use Rattle.std.specs.Prelude.{◌≡◌, ◌&&◌, ◌||◌, ℕ, IfOk, IfSome, false, length, map, nat_eq, nat_lt, take};
+ghost use Rattle.std.specs.Prelude.{◌≡◌, ◌&&◌, ℕ, IfOk, IfSome, cond, false, length, map, nat_eq, nat_lt, take};
 ghost use Rattle.std.specs.Option.{option_map};
 ghost use Rattle.points.specs.Refines.{block_allows, blocks_allow, byte_allows, is_refined, pairs_pass, returned_allows, value_allows};
-ghost use Rattle.bv_terms.specs.Trees.{IsTerm, Keeps, Tests, term_at};
-ghost use Rattle.refine_terms.specs.Alike.{alike_bytes, alike_content, alike_parts, alike_pointers, alike_values};
+ghost use Rattle.bv_terms.specs.Trees.{IsTerm, Keeps, Makes, Tests, bit_at, term_at};
+ghost use Rattle.memory_access.specs.Bytes.{defined_bits};
+ghost use Rattle.refine_terms.specs.Alike.{alike_bits, alike_content, alike_numbers, alike_parts, alike_pointers, alike_values};
 ghost use Rattle.mem_terms.specs.Outcomes.{IsOutcome, outcome_at};
 ghost use Rattle.mem_terms.specs.Values.{Each, IsSymValue, reading, value_at};
 ghost use Rattle.mem_terms.specs.Memory.{AreSymBlocks, AreSymBytes, IsAlways, IsSymBlock, IsSymByte, block_at, byte_at, frame_of, memory_at, places_at};
@@ -16,7 +17,7 @@ use mem_terms::{
     less, negation, number, pick, truth,
 };
 use support::NoMemory;
-use term_rules::may_be;
+use term_rules::{and, may_be, not};
 
 /// A pointer after a run.
 #[derive(Clone, Copy, Debug, PartialEq, Eq)]
@@ -180,34 +181,62 @@ fn same_part(
     Ok(id)
 }
 
-/// True where the source's number is the target's, or else its part, by what the source's byte is.
-fn same_byte_content(
-    given: u64,
+/// The bits of a number that are not in a mask.
+fn bits_outside(number: TermId, mask: TermId, terms: &mut Terms) -> Result<TermId, NoMemory>
+    requires number { IsTerm terms.old 8 number }
+    requires mask { IsTerm terms.old 8 mask }
+    ensures made { IfOk result (λ id. Makes terms.new id 8 (λ v. defined_bits (term_at v terms.old number) (term_at v terms.old mask))) }
+    ensures kept { Keeps terms.old terms.new }
+{
+    let others = not(terms, mask)?;
+    let id = and(terms, number, others)?;
+    Ok(id)
+}
+
+/// True where the bits of two bytes that aren't in the source's mask are the same.
+fn same_bits(source: SymByte, target: SymByte, terms: &mut Terms) -> Result<TermId, NoMemory>
+    requires source { IsSymByte terms.old source }
+    requires target { IsSymByte terms.old target }
+    ensures made { IfOk result (λ id. Tests terms.new id (λ v. alike_numbers v terms.old source target)) }
+    ensures kept { Keeps terms.old terms.new }
+{
+    let from = bits_outside(source.number, source.mask, terms)?;
+    let to = bits_outside(target.number, target.mask, terms)?;
+    let seen = bits_outside(to, source.mask, terms)?;
+    let id = equals(terms, from, seen)?;
+    Ok(id)
+}
+
+/// True where the source's bits allow the target's: no other bit of the target is poison, and those
+/// that are not in the source's mask are the same.
+fn bits_allowed(source: SymByte, target: SymByte, terms: &mut Terms) -> Result<TermId, NoMemory>
+    requires source { IsSymByte terms.old source }
+    requires target { IsSymByte terms.old target }
+    ensures made { IfOk result (λ id. Tests terms.new id (λ v. alike_bits v terms.old source target)) }
+    ensures kept { Keeps terms.old terms.new }
+{
+    let same = same_bits(source, target, terms)?;
+    let more = bits_outside(target.mask, source.mask, terms)?;
+    let within = is_number(more, 0, terms)?;
+    let id = both(terms, within, same)?;
+    Ok(id)
+}
+
+/// True where the source's byte, which is no part of a pointer, allows the target's byte: bits that
+/// it allows, or a part where all bits of the source are poison.
+fn any_allowed_by_bits(
     source: SymByte,
     target: SymByte,
     terms: &mut Terms,
 ) -> Result<TermId, NoMemory>
     requires source { IsSymByte terms.old source }
     requires target { IsSymByte terms.old target }
-    ensures made { IfOk result (λ id. Tests terms.new id (λ v. alike_bytes given v terms.old source target)) }
+    ensures made { IfOk result (λ id. Tests terms.new id (λ v. cond (bit_at v terms.old target.is_part) (nat_eq (term_at v terms.old source.mask) 255) (alike_bits v terms.old source target))) }
     ensures kept { Keeps terms.old terms.new }
 {
-    let part = same_part(given, source, target, terms)?;
-    let number = equals(terms, source.number, target.number)?;
-    let is_number_byte = is_number(source.kind, 0, terms)?;
-    let id = pick(terms, is_number_byte, number, part)?;
-    Ok(id)
-}
-
-/// True where a byte is a number or a part of a pointer, and not poison.
-fn is_value_byte(b: SymByte, terms: &mut Terms) -> Result<TermId, NoMemory>
-    requires { IsSymByte terms.old b }
-    ensures made { IfOk result (λ id. Tests terms.new id (λ v. nat_eq (term_at v terms.old b.kind) 0 || nat_eq (term_at v terms.old b.kind) 1)) }
-    ensures kept { Keeps terms.old terms.new }
-{
-    let is_number_byte = is_number(b.kind, 0, terms)?;
-    let is_part_byte = is_number(b.kind, 1, terms)?;
-    let id = either(terms, is_number_byte, is_part_byte)?;
+    let bits = bits_allowed(source, target, terms)?;
+    let all_poison = is_number(source.mask, 255, terms)?;
+    let id = pick(terms, target.is_part, all_poison, bits)?;
     Ok(id)
 }
 
@@ -223,36 +252,31 @@ fn other_byte_allowed(
     ensures made { IfOk result (λ id. Tests terms.new id (λ v. byte_allows (byte_at (reading given v) terms.old source) (byte_at (reading given v) terms.old target))) }
     ensures kept { Keeps terms.old terms.new }
 {
-    let content = same_byte_content(given, source, target, terms)?;
-    let kind = equals(terms, source.kind, target.kind)?;
-    let alike = both(terms, kind, content)?;
-    let is_value = is_value_byte(source, terms)?;
-    let id = implies(terms, is_value, alike)?;
+    let same = same_part(given, source, target, terms)?;
+    let part = both(terms, target.is_part, same)?;
+    let bits = any_allowed_by_bits(source, target, terms)?;
+    let id = pick(terms, source.is_part, part, bits)?;
     Ok(id)
 }
 
-/// True where the source's byte, which is no part of a pointer, allows the target's byte: where it is
-/// a number, the target's is that number.
-fn number_byte_allowed(
+/// True where the source's byte, which is no part of a pointer, allows the target's byte.
+fn bits_byte_allowed(
     source: SymByte,
     target: SymByte,
     terms: &mut Terms,
 ) -> Result<TermId, NoMemory>
     requires source { IsSymByte terms.old source }
     requires target { IsSymByte terms.old target }
-    requires no_part { (v : ℕ → ℕ → ℕ) → nat_eq (term_at v terms.old source.kind) 1 ≡ false }
+    requires no_part { (v : ℕ → ℕ → ℕ) → bit_at v terms.old source.is_part ≡ false }
     ensures made { IfOk result (λ id. (given : ℕ) → Tests terms.new id (λ v. byte_allows (byte_at (reading given v) terms.old source) (byte_at (reading given v) terms.old target))) }
     ensures kept { Keeps terms.old terms.new }
 {
-    let number = equals(terms, source.number, target.number)?;
-    let kind = equals(terms, source.kind, target.kind)?;
-    let alike = both(terms, kind, number)?;
-    let is_number_byte = is_number(source.kind, 0, terms)?;
-    let id = implies(terms, is_number_byte, alike)?;
+    let id = any_allowed_by_bits(source, target, terms)?;
     Ok(id)
 }
 
-/// True where the source's byte allows the target's: poison allows every byte, and a byte itself.
+/// True where the source's byte allows the target's: a poison bit allows both bits, and a byte
+/// itself.
 fn byte_allowed(
     given: u64,
     source: SymByte,
@@ -264,11 +288,12 @@ fn byte_allowed(
     ensures made { IfOk result (λ id. Tests terms.new id (λ v. byte_allows (byte_at (reading given v) terms.old source) (byte_at (reading given v) terms.old target))) }
     ensures kept { Keeps terms.old terms.new }
 {
+    terms.values_fit();
     if source == target {
         let id = truth(terms, true)?;
         Ok(id)
-    } else if !may_be(terms, source.kind, 1) {
-        let id = number_byte_allowed(source, target, terms)?;
+    } else if !may_be(terms, source.is_part, 1) {
+        let id = bits_byte_allowed(source, target, terms)?;
         Ok(id)
     } else {
         let id = other_byte_allowed(given, source, target, terms)?;

@@ -10,7 +10,7 @@ ghost use Rattle.refine_terms.specs.Groups.{IsCodeOfPlace};
 ghost use Rattle.mem_terms.specs.Inputs.{IsBlockTerms, IsByteTerms};
 ghost use Rattle.refine_terms.specs.Numbers.{block_numbers, byte_numbers};
 
-use crate::bytes::{byte_code, kind_alone};
+use crate::bytes::{byte_code, unused_code};
 use crate::comparing::at_most;
 use bv_terms::{TermId, Terms};
 use mem_terms::{ByteTerms, both, pick, truth};
@@ -32,7 +32,7 @@ fn place_code(
     ensures kept { Keeps terms.old terms.new }
 {
     let byte = byte_code(b, layout, terms)?;
-    let unused = kind_alone(b, 0, terms)?;
+    let unused = unused_code(b, terms)?;
     let is_past = at_most(size, place, terms)?;
     let id = pick(terms, is_past, unused, byte)?;
     Ok(id)

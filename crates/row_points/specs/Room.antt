@@ -8,4 +8,4 @@ use Rattle.points.specs.declared.point.Layout.{Layout}
 pub record HasRoom (layout : Layout) (block : MemoryBlock) : Type 0 where
   pub small : block.size ≤ layout.bytes
   pub room : length block.places ≡ layout.bytes
-  pub past : drop block.size block.places ≡ replicate (layout.bytes - block.size) (byte.Num 0)
+  pub past : drop block.size block.places ≡ replicate (layout.bytes - block.size) (byte.Bits 0 0)

@@ -58,9 +58,8 @@ fn is_byte(byte: Byte, layout: &Layout) -> bool
     ensures { IsTrue result → ByteFits layout.now byte }
 {
     match byte {
-        Byte::Num(_) => true,
+        Byte::Bits { number, mask } => number & mask == 0,
         Byte::Part(pointer, part) => part <= 7 && is_block_name(pointer.block, layout),
-        Byte::Poison => true,
     }
 }
 
@@ -78,17 +77,16 @@ fn are_bytes(bytes: &[Byte], layout: &Layout) -> bool
 }
 
 fn is_zero(byte: Byte) -> bool
-    ensures { IsTrue result → byte ≡ Byte.Num 0 }
+    ensures { IsTrue result → byte ≡ Byte.Bits 0 0 }
 {
     match byte {
-        Byte::Num(n) => n == 0,
+        Byte::Bits { number, mask } => number == 0 && mask == 0,
         Byte::Part(_, _) => false,
-        Byte::Poison => false,
     }
 }
 
 fn are_zeros(bytes: &[Byte]) -> bool
-    ensures { IsTrue result → bytes.now ≡ replicate (length bytes.now) (Byte.Num 0) }
+    ensures { IsTrue result → bytes.now ≡ replicate (length bytes.now) (Byte.Bits 0 0) }
 {
     let mut rest = bytes;
     while let [byte, more @ ..] = rest {

@@ -68,7 +68,7 @@ fn block_with(number: u64, bytes: Vec<Byte>, layout: &Layout) -> Result<MemoryBl
     let size = bytes.len() as u64;
     let mut places = bytes;
     for _place in size..layout.bytes {
-        places.push(Byte::Num(0))?;
+        places.push(Byte::Bits { number: 0, mask: 0 })?;
     }
     Ok(MemoryBlock {
         name: BlockName::Given(number),

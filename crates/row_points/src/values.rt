@@ -53,6 +53,19 @@ fn hex_digit(digit: u8) -> Option<u8>
     }
 }
 
+/// The number of two hexadecimal digits.
+fn hex_byte(high: u8, low: u8) -> Option<u8> {
+    Some(hex_digit(high)? * 16 + hex_digit(low)?)
+}
+
+/// Bits of which some, but not all, are poison: their number and their mask have no bit in common.
+fn bits_in(number: u8, mask: u8) -> Option<Byte> {
+    if mask == 0 || mask == u8::MAX || number & mask != 0 {
+        return None;
+    }
+    Some(Byte::Bits { number, mask })
+}
+
 /// A part of a pointer, `given1+0/7`.
 fn part_in(text: &[u8]) -> Option<Byte> {
     let (pointer, part) = split_at_byte(b'/', text)?;
@@ -60,11 +73,21 @@ fn part_in(text: &[u8]) -> Option<Byte> {
     Some(Byte::Part(pointer_in(pointer)?, part.parse::<u8>().ok()?))
 }
 
-/// A byte.
+/// A byte: `00` to `ff`, `--` if all bits are poison, `0f~30` if those of a mask are, or a part of a
+/// pointer.
 fn byte_in(text: &[u8]) -> Option<Byte> {
     match text {
-        [b'-', b'-'] => Some(Byte::Poison),
-        [high, low] => Some(Byte::Num(hex_digit(*high)? * 16 + hex_digit(*low)?)),
+        [b'-', b'-'] => Some(Byte::Bits {
+            number: 0,
+            mask: u8::MAX,
+        }),
+        [high, low] => Some(Byte::Bits {
+            number: hex_byte(*high, *low)?,
+            mask: 0,
+        }),
+        [high, low, b'~', mask_high, mask_low] => {
+            bits_in(hex_byte(*high, *low)?, hex_byte(*mask_high, *mask_low)?)
+        }
         _ => part_in(text),
     }
 }

@@ -11,9 +11,9 @@ use Rattle.points.proofs.Words as words
 
 -- ---- empty blocks fit
 
-empty_bytes_fit : (layout : Layout) (n : ℕ) → BytesFit layout (replicate n (byte.Num 0))
+empty_bytes_fit : (layout : Layout) (n : ℕ) → BytesFit layout (replicate n (byte.Bits 0 0))
 empty_bytes_fit layout zero = tt
-empty_bytes_fit layout (suc n) = (omega arith, empty_bytes_fit layout n)
+empty_bytes_fit layout (suc n) = ((omega arith, omega arith, refl), empty_bytes_fit layout n)
 
 bytes_less_0 : (n : ℕ) → n ≡ n - 0
 bytes_less_0 n = omega arith
@@ -24,7 +24,7 @@ unfolding first_empty
 fit_before layout zero rest h = rw (← zero-add 1) h
 fit_before layout (suc n) rest h =
     rw append_assoc
-    (fit_before layout n (empty_block layout (n + 1) ∷ rest) (record { named = refl; aligned = refl; small = omega arith; room = length-replicate layout.bytes (byte.Num 0); past = ap (λ k. replicate k (byte.Num 0)) (bytes_less_0 layout.bytes); fit = empty_bytes_fit layout layout.bytes }, (let e : suc n + 1 ≡ n + 1 + 1 = omega arith in rw e at h)))
+    (fit_before layout n (empty_block layout (n + 1) ∷ rest) (record { named = refl; aligned = refl; small = omega arith; room = length-replicate layout.bytes (byte.Bits 0 0); past = ap (λ k. replicate k (byte.Bits 0 0)) (bytes_less_0 layout.bytes); fit = empty_bytes_fit layout layout.bytes }, (let e : suc n + 1 ≡ n + 1 + 1 = omega arith in rw e at h)))
 
 pub empty_fit : (layout : Layout) → BlocksFit layout 1 (empty_blocks layout)
 empty_fit layout = let e = fit_before layout layout.blocks [] refl in rw append-nil at e
@@ -56,9 +56,9 @@ replicate_zero : (n : ℕ) → Zeros (replicate n 0)
 replicate_zero zero = tt
 replicate_zero (suc n) = (refl, replicate_zero n)
 
-bytes_zero : (layout : Layout) (n : ℕ) → Zeros (flat_map (byte_code layout) (replicate n (byte.Num 0)))
+bytes_zero : (layout : Layout) (n : ℕ) → Zeros (flat_map (byte_code layout) (replicate n (byte.Bits 0 0)))
 bytes_zero layout zero = tt
-bytes_zero layout (suc n) = (refl, (refl, (refl, (refl, (refl, bytes_zero layout n)))))
+bytes_zero layout (suc n) = (refl, (refl, (refl, (refl, (refl, (refl, bytes_zero layout n))))))
 
 -- the sizes are zeros, and so are the contents
 record AreZeros (layout : Layout) (bs : List MemoryBlock) : Type 0 where
@@ -96,7 +96,7 @@ abbrev pub middle_of : RunPair → Bounds → List ℕ
 middle_of pair bounds = blocks_code (layout_of pair bounds) (empty_blocks (layout_of pair bounds))
 
 abbrev pub middle_count : RunPair → Bounds → ℕ
-middle_count pair bounds = (layout_of pair bounds).blocks + (layout_of pair bounds).blocks * ((layout_of pair bounds).bytes * 5)
+middle_count pair bounds = (layout_of pair bounds).blocks + (layout_of pair bounds).blocks * ((layout_of pair bounds).bytes * 6)
 
 pub few : (bounds : Bounds) → AreSmall bounds → bounds.blocks < 2 ^ 64
 few bounds small = let most = small.blocks in omega (arith, most)

@@ -44,7 +44,7 @@ DoesEnd pair bounds p ending memory = (run_of pair.target bounds p.input p.tape)
 
 -- the given block of this number, with size 0
 abbrev pub empty_block : Layout → ℕ → MemoryBlock
-empty_block layout number = record { name = Given number; size = 0; align = 16; places = replicate layout.bytes (byte.Num 0) }
+empty_block layout number = record { name = Given number; size = 0; align = 16; places = replicate layout.bytes (byte.Bits 0 0) }
 
 -- the first n of them, numbered from 1
 unfoldable pub first_empty : Layout → ℕ → List MemoryBlock

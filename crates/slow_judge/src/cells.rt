@@ -18,9 +18,9 @@ use tv_num::Width;
 use verdicts::RunPair;
 
 fn zero_bytes(alloc: Global, count: usize) -> Result<Vec<Byte>, AllocError>
-    ensures { IfOk result (λ bytes. bytes.items ≡ replicate count (Byte.Num 0)) }
+    ensures { IfOk result (λ bytes. bytes.items ≡ replicate count (Byte.Bits 0 0)) }
 {
-    vec![in alloc; Byte::Num(0); count]
+    vec![in alloc; Byte::Bits { number: 0, mask: 0 }; count]
 }
 
 fn least_value(of_type: IrType) -> Value

@@ -9,6 +9,7 @@ given3 8 given1+2/0 given1+2/1 given1+2/2 given1+2/3 given1+2/4 given1+2/5 given
 given4 8 given1+2/0 given1+2/1 given1+2/2 given1+2/3 given1+3/4 given1+2/5 given1+2/6 given1+2/7 |
 given5 8 given1+2/1 given1+2/2 given1+2/3 given1+2/4 given1+2/5 given1+2/6 given1+2/7 given1+2/0 |
 local0.2 2 80 ff ff 7f |
+given7 8 01~02 01~80 01 00~80 |
 given1 16 aa |
 ";
 
@@ -30,7 +31,14 @@ i9 1 given1+0 = poison
 i10 1 given1+0 = 513
 i31 2 local0.2+0 = 2147483520
 i30 2 local0.2+0 = poison
-# one byte of poison, or of a pointer, makes an integer poison
+# one bit of poison, or a part of a pointer, makes an integer poison, also past its width
+i1 1 given7+0 = poison
+i1 1 given7+1 = poison
+i1 1 given7+2 = 1
+i8 1 given7+1 = poison
+i8 1 given7+2 = 1
+i16 2 given7+2 = poison
+i15 2 given7+2 = poison
 i8 1 given1+6 = poison
 i16 2 given1+6 = poison
 i32 4 given1+4 = poison
@@ -83,10 +91,14 @@ i32 4 given1+4 4294967294 = done 01 02 03 84 fe ff ff ff null+9/0 null+9/1 null+
 i64 8 given1+8 72623859790382856 = done 01 02 03 84 ff 00 -- 07 08 07 06 05 04 03 02 01
 i9 1 given1+0 511 = done ff 01 03 84 ff 00 -- 07 null+9/0 null+9/1 null+9/2 null+9/3 null+9/4 null+9/5 null+9/6 null+9/7
 i1 1 given1+15 1 = done 01 02 03 84 ff 00 -- 07 null+9/0 null+9/1 null+9/2 null+9/3 null+9/4 null+9/5 null+9/6 01
-# poison is stored as bytes of poison
+# poison is stored as poison in each bit of the type, and 0 in those past its width
+i1 1 given1+0 poison = done 00~01 02 03 84 ff 00 -- 07 null+9/0 null+9/1 null+9/2 null+9/3 null+9/4 null+9/5 null+9/6 null+9/7
+i5 1 given1+1 poison = done 01 00~1f 03 84 ff 00 -- 07 null+9/0 null+9/1 null+9/2 null+9/3 null+9/4 null+9/5 null+9/6 null+9/7
+i24 1 given1+0 poison = done -- -- -- 84 ff 00 -- 07 null+9/0 null+9/1 null+9/2 null+9/3 null+9/4 null+9/5 null+9/6 null+9/7
+i48 4 given1+4 poison = done 01 02 03 84 -- -- -- -- -- -- null+9/2 null+9/3 null+9/4 null+9/5 null+9/6 null+9/7
 i8 1 given1+0 poison = done -- 02 03 84 ff 00 -- 07 null+9/0 null+9/1 null+9/2 null+9/3 null+9/4 null+9/5 null+9/6 null+9/7
 i32 4 given1+8 poison = done 01 02 03 84 ff 00 -- 07 -- -- -- -- null+9/4 null+9/5 null+9/6 null+9/7
-i9 1 given1+3 poison = done 01 02 03 -- -- 00 -- 07 null+9/0 null+9/1 null+9/2 null+9/3 null+9/4 null+9/5 null+9/6 null+9/7
+i9 1 given1+3 poison = done 01 02 03 -- 00~01 00 -- 07 null+9/0 null+9/1 null+9/2 null+9/3 null+9/4 null+9/5 null+9/6 null+9/7
 ptr 8 given1+0 poison = done -- -- -- -- -- -- -- -- null+9/0 null+9/1 null+9/2 null+9/3 null+9/4 null+9/5 null+9/6 null+9/7
 # a pointer is stored as its parts
 ptr 8 given1+0 given2+18446744073709551615 = done given2+18446744073709551615/0 given2+18446744073709551615/1 given2+18446744073709551615/2 given2+18446744073709551615/3 given2+18446744073709551615/4 given2+18446744073709551615/5 given2+18446744073709551615/6 given2+18446744073709551615/7 null+9/0 null+9/1 null+9/2 null+9/3 null+9/4 null+9/5 null+9/6 null+9/7

@@ -43,15 +43,17 @@ fn shape_with(
 
 /// A parameter of one bit, one given block of at most one byte, and one word of one bit.
 fn one_of_each(alloc: Global) -> Result<Shape, NoMemory>
-    ensures no_byte { IfOk result (λ s. IsCode s (0 ∷ 0 ∷ 0 ∷ 0 ∷ 0 ∷ 0 ∷ 0 ∷ 0 ∷ 1 ∷ [])) }
-    ensures last_number { IfOk result (λ s. IsCode s (0 ∷ 0 ∷ 1 ∷ 0 ∷ 255 ∷ 0 ∷ 0 ∷ 0 ∷ 1 ∷ [])) }
-    ensures sixth_part { IfOk result (λ s. IsCode s (0 ∷ 0 ∷ 1 ∷ 1 ∷ 0 ∷ 0 ∷ 5 ∷ 6 ∷ 1 ∷ [])) }
+    ensures no_byte { IfOk result (λ s. IsCode s (0 ∷ 0 ∷ 0 ∷ 0 ∷ 0 ∷ 0 ∷ 0 ∷ 0 ∷ 0 ∷ 1 ∷ [])) }
+    ensures last_number { IfOk result (λ s. IsCode s (0 ∷ 0 ∷ 1 ∷ 0 ∷ 0 ∷ 255 ∷ 0 ∷ 0 ∷ 0 ∷ 1 ∷ [])) }
+    ensures sixth_part { IfOk result (λ s. IsCode s (0 ∷ 0 ∷ 1 ∷ 1 ∷ 0 ∷ 0 ∷ 0 ∷ 5 ∷ 6 ∷ 1 ∷ [])) }
     ensures last_of_null { IfOk result
-        (λ s. IsCode s (0 ∷ 0 ∷ 1 ∷ 1 ∷ 0 ∷ 0 ∷ 18446744073709551615 ∷ 7 ∷ 1 ∷ [])) }
+        (λ s. IsCode s (0 ∷ 0 ∷ 1 ∷ 1 ∷ 0 ∷ 0 ∷ 0 ∷ 18446744073709551615 ∷ 7 ∷ 1 ∷ [])) }
     ensures last_part { IfOk result
-        (λ s. IsCode s (0 ∷ 0 ∷ 1 ∷ 1 ∷ 0 ∷ 1 ∷ 18446744073709551615 ∷ 7 ∷ 1 ∷ [])) }
-    ensures poison_byte { IfOk result (λ s. IsCode s (0 ∷ 1 ∷ 1 ∷ 2 ∷ 0 ∷ 0 ∷ 0 ∷ 0 ∷ 1 ∷ [])) }
-    ensures last { IfOk result (λ s. IsCode s (1 ∷ 0 ∷ 1 ∷ 2 ∷ 0 ∷ 0 ∷ 0 ∷ 0 ∷ 1 ∷ [])) }
+        (λ s. IsCode s (0 ∷ 0 ∷ 1 ∷ 1 ∷ 0 ∷ 0 ∷ 1 ∷ 18446744073709551615 ∷ 7 ∷ 1 ∷ [])) }
+    ensures within_mask { IfOk result (λ s. IsCode s (0 ∷ 1 ∷ 1 ∷ 2 ∷ 6 ∷ 1 ∷ 0 ∷ 0 ∷ 0 ∷ 1 ∷ [])) }
+    ensures last_of_mask { IfOk result (λ s. IsCode s (0 ∷ 1 ∷ 1 ∷ 2 ∷ 5 ∷ 250 ∷ 0 ∷ 0 ∷ 0 ∷ 1 ∷ [])) }
+    ensures poison_byte { IfOk result (λ s. IsCode s (0 ∷ 1 ∷ 1 ∷ 2 ∷ 255 ∷ 0 ∷ 0 ∷ 0 ∷ 0 ∷ 1 ∷ [])) }
+    ensures last { IfOk result (λ s. IsCode s (1 ∷ 0 ∷ 1 ∷ 2 ∷ 255 ∷ 0 ∷ 0 ∷ 0 ∷ 0 ∷ 1 ∷ [])) }
 {
     let bit = Parameter {
         of_type: IrType::Int(Width::of(1)),
@@ -88,7 +90,7 @@ fn is_followed_by(
 fn codes_come_back_from_their_points(rt: HostRuntime) -> Result<(), Fail> {
     let alloc = rt.alloc();
     let shape = one_of_each(alloc)?;
-    let code = [0, 0, 1, 1, 0, 0, 5, 6, 1];
+    let code = [0, 0, 1, 1, 0, 0, 0, 5, 6, 1];
     let point = point_of(alloc, &code, &shape)?;
     let again = code_of(alloc, &point, &shape)?;
     expect(
@@ -106,52 +108,68 @@ fn bytes_come_before_sizes_and_sizes_before_arguments(rt: HostRuntime) -> Result
         is_followed_by(
             alloc,
             &shape,
-            &[0, 0, 0, 0, 0, 0, 0, 0, 1],
-            Some(&[0, 0, 1, 0, 0, 0, 0, 0, 0]),
+            &[0, 0, 0, 0, 0, 0, 0, 0, 0, 1],
+            Some(&[0, 0, 1, 0, 0, 0, 0, 0, 0, 0]),
         )?
     );
     assert!(rt;
         is_followed_by(
             alloc,
             &shape,
-            &[0, 0, 1, 0, 255, 0, 0, 0, 1],
-            Some(&[0, 0, 1, 1, 0, 0, 0, 0, 0]),
+            &[0, 0, 1, 0, 0, 255, 0, 0, 0, 1],
+            Some(&[0, 0, 1, 1, 0, 0, 0, 0, 0, 0]),
         )?
     );
     assert!(rt;
         is_followed_by(
             alloc,
             &shape,
-            &[0, 0, 1, 1, 0, 0, 5, 6, 1],
-            Some(&[0, 0, 1, 1, 0, 0, 5, 7, 0]),
+            &[0, 0, 1, 1, 0, 0, 0, 5, 6, 1],
+            Some(&[0, 0, 1, 1, 0, 0, 0, 5, 7, 0]),
         )?
     );
     assert!(rt;
         is_followed_by(
             alloc,
             &shape,
-            &[0, 0, 1, 1, 0, 0, most, 7, 1],
-            Some(&[0, 0, 1, 1, 0, 1, 0, 0, 0]),
+            &[0, 0, 1, 1, 0, 0, 0, most, 7, 1],
+            Some(&[0, 0, 1, 1, 0, 0, 1, 0, 0, 0]),
         )?
     );
     assert!(rt;
         is_followed_by(
             alloc,
             &shape,
-            &[0, 0, 1, 1, 0, 1, most, 7, 1],
-            Some(&[0, 0, 1, 2, 0, 0, 0, 0, 0]),
+            &[0, 0, 1, 1, 0, 0, 1, most, 7, 1],
+            Some(&[0, 0, 1, 2, 1, 0, 0, 0, 0, 0]),
         )?
     );
     assert!(rt;
         is_followed_by(
             alloc,
             &shape,
-            &[0, 1, 1, 2, 0, 0, 0, 0, 1],
-            Some(&[1, 0, 0, 0, 0, 0, 0, 0, 0]),
+            &[0, 1, 1, 2, 6, 1, 0, 0, 0, 1],
+            Some(&[0, 1, 1, 2, 6, 8, 0, 0, 0, 0]),
+        )?
+    );
+    assert!(rt;
+        is_followed_by(
+            alloc,
+            &shape,
+            &[0, 1, 1, 2, 5, 250, 0, 0, 0, 1],
+            Some(&[0, 1, 1, 2, 6, 0, 0, 0, 0, 0]),
+        )?
+    );
+    assert!(rt;
+        is_followed_by(
+            alloc,
+            &shape,
+            &[0, 1, 1, 2, 255, 0, 0, 0, 0, 1],
+            Some(&[1, 0, 0, 0, 0, 0, 0, 0, 0, 0]),
         )?
     );
     expect(
-        is_followed_by(alloc, &shape, &[1, 0, 1, 2, 0, 0, 0, 0, 1], None)?,
+        is_followed_by(alloc, &shape, &[1, 0, 1, 2, 255, 0, 0, 0, 0, 1], None)?,
         "bytes come before sizes and sizes before arguments",
     )
 }

@@ -8,8 +8,11 @@ use std::test::Fail;
 use support::{NoMemory, Sequence};
 
 const PLACES: [Byte; 3] = [
-    Byte::Num(5),
-    Byte::Poison,
+    Byte::Bits { number: 5, mask: 0 },
+    Byte::Bits {
+        number: 0,
+        mask: 255,
+    },
     Byte::Part(
         Ptr {
             block: BlockName::Null,

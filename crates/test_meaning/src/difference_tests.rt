@@ -44,7 +44,7 @@ fn input_of(alloc: Global, arg: Value) -> Result<Input, NoMemory> {
         name: BlockName::Given(1),
         size: 1,
         align: 16,
-        places: Sequence::from_vec(vec![in alloc; Byte::Num(0); 1]?),
+        places: Sequence::from_vec(vec![in alloc; Byte::Bits { number: 0, mask: 0 }; 1]?),
     };
     let mut blocks = Sequence::from_vec(Vec::new(alloc));
     blocks.push(block)?;

@@ -26,14 +26,19 @@ const FIRST: Value = Value::Ptr(Ptr {
     offset: 0,
 });
 
+/// A byte without poison.
+fn number_byte(number: u8) -> Byte {
+    Byte::Bits { number, mask: 0 }
+}
+
 /// A given block with these bytes, and room for two more.
 fn given_block(alloc: Global, number: u64, bytes: &[u8]) -> Result<MemoryBlock, NoMemory> {
     let mut places = Vec::new(alloc);
     for byte in bytes {
-        places.push(Byte::Num(*byte))?;
+        places.push(number_byte(*byte))?;
     }
-    places.push(Byte::Num(9))?;
-    places.push(Byte::Num(9))?;
+    places.push(number_byte(9))?;
+    places.push(number_byte(9))?;
     Ok(MemoryBlock {
         name: BlockName::Given(number),
         size: bytes.len() as u64,
@@ -185,7 +190,7 @@ fn first_byte(memory: &Memory) -> Option<Byte> {
 /// Whether a run of that function leaves 9 instead of the byte that was given.
 fn is_overwritten(left: &Memory, given: &Memory) -> bool {
     let ending = Ending::Return(Some(Value::Num(1)));
-    first_byte(left) == Some(Byte::Num(9))
+    first_byte(left) == Some(number_byte(9))
         && runs_refine(ending, left, ending, left)
         && !runs_refine(ending, left, ending, given)
 }

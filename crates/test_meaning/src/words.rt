@@ -46,14 +46,27 @@ pub fn value_in(word: &str) -> Option<Value> {
     }
 }
 
-/// A byte: `--` for poison, two hexadecimal digits, or a pointer and its part, as `given1+4/0`.
+/// Bits: two hexadecimal digits, and after a tilde two of those that are poison.
+fn bits_in(word: &str) -> Option<Byte> {
+    let (number, mask) = match word.split_once("~") {
+        Some((number, mask)) => (number, u8::from_str_radix(mask, 16).ok()?),
+        None => (word, 0),
+    };
+    let number = u8::from_str_radix(number, 16).ok()?;
+    Some(Byte::Bits { number, mask })
+}
+
+/// A byte: `--` where all bits are poison, bits, or a pointer and its part, as `given1+4/0`.
 pub fn byte_in(word: &str) -> Option<Byte> {
     if word == "--" {
-        return Some(Byte::Poison);
+        return Some(Byte::Bits {
+            number: 0,
+            mask: u8::MAX,
+        });
     }
     match word.split_once("/") {
         Some((pointer, part)) => Some(Byte::Part(pointer_in(pointer)?, part.parse::<u8>().ok()?)),
-        None => Some(Byte::Num(u8::from_str_radix(word, 16).ok()?)),
+        None => bits_in(word),
     }
 }
 

@@ -12,8 +12,9 @@ use bv_terms::{TermId, Terms};
 use byte_block::{BlockName, Byte, Ptr, Value};
 use mem_terms::{
     SymByte, SymValue, as_address, as_number, integer_value, known_number, negation, null_value,
-    number, pick_byte, pick_value, pointer_value, poison_byte, poison_value,
+    number, pick_byte, pick_value, pointer_value, poison_byte, poison_value, truth,
 };
+use memory_access::defined_bits;
 use std::alloc::Global;
 use std::test::Fail;
 use support::NoMemory;
@@ -192,15 +193,15 @@ fn a_choice_has_the_kind_of_the_chosen_value(rt: HostRuntime) -> Result<(), Fail
 
 // ---- bytes
 
-fn number_byte(terms: &mut Terms, n: u8) -> Result<SymByte, NoMemory>
+fn bits_byte(terms: &mut Terms, n: u8, poison: u8) -> Result<SymByte, NoMemory>
     ensures made { IfOk result (IsSymByte terms.new) }
     ensures kept { Keeps terms.old terms.new }
 {
     let unused = poison_byte(terms)?;
-    let kind = terms.constant(0, 2)?;
+    let mask = terms.constant(u128::from(poison), 8)?;
     let number = terms.constant(u128::from(n), 8)?;
     Ok(SymByte {
-        kind,
+        mask,
         number,
         ..unused
     })
@@ -212,10 +213,11 @@ fn part_byte(terms: &mut Terms, pointer: Ptr, part: u8) -> Result<SymByte, NoMem
 {
     let unused = poison_byte(terms)?;
     let (block, offset) = pointer_terms(terms, pointer)?;
-    let kind = terms.constant(1, 2)?;
+    let is_part = truth(terms, true)?;
     let part = terms.constant(u128::from(part % 8), 3)?;
     Ok(SymByte {
-        kind,
+        is_part,
+        mask: unused.mask,
         number: unused.number,
         block,
         offset,
@@ -228,21 +230,28 @@ fn byte_terms(terms: &mut Terms, byte: Byte) -> Result<SymByte, NoMemory>
     ensures kept { Keeps terms.old terms.new }
 {
     match byte {
-        Byte::Poison => poison_byte(terms),
-        Byte::Num(n) => number_byte(terms, n),
+        Byte::Bits { number, mask } => bits_byte(terms, number, mask),
         Byte::Part(pointer, part) => part_byte(terms, pointer, part),
     }
 }
 
 fn byte_in(alloc: Global, terms: &Terms, b: SymByte) -> Result<Byte, NoMemory> {
-    match number_in(alloc, terms, b.kind)? {
-        0 => Ok(Byte::Num(number_in(alloc, terms, b.number)?.to_le_bytes()[0])),
-        1 => Ok(Byte::Part(
+    if number_in(alloc, terms, b.is_part)? == 1 {
+        return Ok(Byte::Part(
             pointer_in(alloc, terms, b.block, b.offset)?,
             number_in(alloc, terms, b.part)?.to_le_bytes()[0],
-        )),
-        _ => Ok(Byte::Poison),
+        ));
     }
+    let mask = number_in(alloc, terms, b.mask)?.to_le_bytes()[0];
+    let number = number_in(alloc, terms, b.number)?.to_le_bytes()[0];
+    Ok(Byte::Bits {
+        number: defined_bits(number, mask),
+        mask,
+    })
+}
+
+fn bits(number: u8, mask: u8) -> Byte {
+    Byte::Bits { number, mask }
 }
 
 /// The byte of the choice of the first or the second of two bytes.
@@ -271,9 +280,11 @@ fn a_choice_is_the_chosen_byte(rt: HostRuntime) -> Result<(), Fail> {
         offset: 16,
     };
     let bytes = [
-        Byte::Poison,
-        Byte::Num(0),
-        Byte::Num(255),
+        bits(0, 255),
+        bits(0, 0),
+        bits(255, 0),
+        bits(240, 15),
+        bits(1, 128),
         Byte::Part(start, 0),
         Byte::Part(start, 7),
         Byte::Part(later, 7),

@@ -16,10 +16,10 @@ use std::alloc::Global;
 use std::test::Fail;
 use support::{NoMemory, Sequence};
 
-/// The kind, number, block, offset and part of a byte. One block is given, with the number 1; the
-/// blocks of allocas have the numbers from 8 on.
+/// Whether a byte is a part of a pointer, its mask and number, its block, offset and part. One block
+/// is given, with the number 1; the blocks of allocas have the numbers from 8 on.
 #[derive(Clone, Copy)]
-struct Place(u8, u8, u64, u64, u8);
+struct Place(bool, u8, u8, u64, u64, u8);
 
 /// Whether a value is poison and whether it is a pointer, its block, and its number or offset.
 #[derive(Clone, Copy)]
@@ -38,13 +38,15 @@ fn byte(terms: &mut Terms, place: Place) -> Result<SymByte, NoMemory>
     ensures made { IfOk result (IsSymByte terms.new) }
     ensures kept { Keeps terms.old terms.new }
 {
-    let kind = terms.constant(u128::from(place.0 % 4), 2)?;
-    let number_8 = terms.constant(u128::from(place.1), 8)?;
-    let block = number(terms, place.2)?;
-    let offset = number(terms, place.3)?;
-    let part = terms.constant(u128::from(place.4 % 8), 3)?;
+    let mask = terms.constant(u128::from(place.1), 8)?;
+    let number_8 = terms.constant(u128::from(place.2), 8)?;
+    let block = number(terms, place.3)?;
+    let offset = number(terms, place.4)?;
+    let part = terms.constant(u128::from(place.5 % 8), 3)?;
+    let is_part = truth(terms, place.0)?;
     Ok(SymByte {
-        kind,
+        is_part,
+        mask,
         number: number_8,
         block,
         offset,
@@ -176,19 +178,23 @@ pointer 7 0 pointer 8 3 no
 pointer 8 8 pointer 1 8 no
 pointer 1 8 pointer 8 8 no";
 
-/// The bytes of a block by their letters: `p` poison, `1` and `2` these numbers, `a` part 3 of the
-/// pointer to byte 4 of the given block and `b` its part 2, `c` and `d` part 3 of pointers to bytes 4
+/// The bytes of a block by their letters: `p` poison, `1` and `2` these numbers, `h` and `i` with the
+/// upper four bits of 0 and of 16 and the others poison, `j` as `h` and with bits of its number where
+/// it is poison, which have no meaning, `a` part 3 of the pointer to byte 4 of the given block and `b` its part 2, `c` and `d` part 3 of pointers to bytes 4
 /// and 0 of an alloca's block, `e` part 3 of one to byte 4 of another alloca's block.
 fn lettered(letter: u8) -> Place {
     match letter {
-        b'1' => Place(0, 1, 0, 0, 0),
-        b'2' => Place(0, 2, 0, 0, 0),
-        b'a' => Place(1, 0, 1, 4, 3),
-        b'b' => Place(1, 0, 1, 4, 2),
-        b'c' => Place(1, 0, 8, 4, 3),
-        b'd' => Place(1, 0, 8, 0, 3),
-        b'e' => Place(1, 0, 9, 4, 3),
-        _ => Place(2, 0, 0, 0, 0),
+        b'1' => Place(false, 0, 1, 0, 0, 0),
+        b'2' => Place(false, 0, 2, 0, 0, 0),
+        b'h' => Place(false, 15, 0, 0, 0, 0),
+        b'i' => Place(false, 15, 16, 0, 0, 0),
+        b'j' => Place(false, 15, 7, 0, 0, 0),
+        b'a' => Place(true, 0, 0, 1, 4, 3),
+        b'b' => Place(true, 0, 0, 1, 4, 2),
+        b'c' => Place(true, 0, 0, 8, 4, 3),
+        b'd' => Place(true, 0, 0, 8, 0, 3),
+        b'e' => Place(true, 0, 0, 9, 4, 3),
+        _ => Place(false, 255, 0, 0, 0, 0),
     }
 }
 
@@ -222,7 +228,17 @@ const LEFT_PAIRS: &str = "\
 1 a2 1 b2 no
 1 a2 1 c2 no
 1 d2 1 e2 yes
-1 a2 1 12 no";
+1 a2 1 12 no
+1 a2 1 p2 no
+1 h2 1 12 yes
+1 i2 1 12 no
+1 12 1 h2 no
+1 h2 1 p2 no
+1 p2 1 h2 yes
+1 h2 1 j2 yes
+1 j2 1 h2 yes
+1 h2 1 a2 no
+1 p2 1 a2 yes";
 
 /// The ends of a row, and whether the first covers the second.
 fn returns_in(row: &str) -> Option<(End, End, bool)> {

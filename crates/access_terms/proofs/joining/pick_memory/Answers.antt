@@ -1,6 +1,12 @@
-use Rattle.access_terms.proofs.Common.{keeps_trans}
+use Rattle.access_terms.proofs.Common.{keeps_trans, sym_blocks-later}
 use Rattle.access_terms.proofs.Joins.{joined_more}
 use Rattle.access_terms.proofs.joining.pick_memory.Goals as goal
+
+pub join_next-requires-clause-a : goal.join_next-requires-clause-a
+join_next-requires-clause-a c = sym_blocks-later c.args.terms.now c.loop-alloc.terms c.loop-alloc.invariant.0 c.args.a.now c.requires.a
+
+pub join_next-requires-clause-b : goal.join_next-requires-clause-b
+join_next-requires-clause-b c = sym_blocks-later c.args.terms.now c.loop-alloc.terms c.loop-alloc.invariant.0 c.args.b.now c.requires.b
 
 pub loop-alloc-preserved : goal.loop-alloc-preserved
 loop-alloc-preserved c = (

@@ -11,7 +11,7 @@ loop-i-preserved c =
     let j = c.args.from + c.loop-i.i in
     let i = c.loop-i.invariant in
     let before = c.get-before.result.now in
-    let byte = get_or c.args.bytes.now c.loop-i.i (record { kind = record { index = 0 }; number = record { index = 0 }; block = record { index = 0 }; offset = record { index = 0 }; part = record { index = 0 } }) in
+    let byte = get_or c.args.bytes.now c.loop-i.i (record { is_part = record { index = 0 }; mask = record { index = 0 }; number = record { index = 0 }; block = record { index = 0 }; offset = record { index = 0 }; part = record { index = 0 } }) in
     let made = each-set (IsSymByte b) now j c.in_ok-picked.picked (sym_bytes-later a b c.pick_byte.ensures.kept now i.made) c.in_ok-picked.ensures.made in
     let stands = put_more c.args.terms.now a b c.args.c c.args.bytes.now c.args.places.now now c.args.from c.loop-i.i byte before c.in_ok-picked.picked
     c.requires.c c.requires.bytes c.requires.room i.count c.loop-i-test.true (at-any c.args.bytes.now c.loop-i.i _ _ c.loop-i-test.true) (sym (get_or_from_slice_get now j before before c.get-before.ensures))

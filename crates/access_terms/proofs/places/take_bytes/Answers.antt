@@ -2,6 +2,9 @@ use Rattle.access_terms.proofs.Common.{◌+◌, ◌-◌, ◌∙◌, drop, length
 use Rattle.access_terms.proofs.Putting.{each-part, never_put, taken}
 use Rattle.access_terms.proofs.places.take_bytes.Goals as goal
 
+pub returns-then-is_never-clause-made : goal.returns-then-is_never-clause-made
+returns-then-is_never-clause-made c = sym_bytes-later c.args.terms.now c.is_at.new.terms c.is_at.ensures.kept c.args.bytes.now c.requires.bytes
+
 pub returns-then-is_never-clause-stands : goal.returns-then-is_never-clause-stands
 returns-then-is_never-clause-stands c = λ r.
     never_put c.args.terms.now c.is_at.new.terms c.is_at.ensures.kept c.args.bytes.now c.requires.bytes r (nat_eq (term_at r.v c.args.terms.now c.args.offset) c.args.place)

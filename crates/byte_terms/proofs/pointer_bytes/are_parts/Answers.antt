@@ -7,7 +7,7 @@ loop-i-preserved c =
     let a = c.loop-i.terms in
     let b = c.is_part.new.terms in
     let k = c.loop-i.invariant.kept in
-    let byte = get_or c.args.bytes.now c.loop-i.i (record { kind = record { index = 0 }; number = record { index = 0 }; block = record { index = 0 }; offset = record { index = 0 }; part = record { index = 0 } }) in
+    let byte = get_or c.args.bytes.now c.loop-i.i (record { is_part = record { index = 0 }; mask = record { index = 0 }; number = record { index = 0 }; block = record { index = 0 }; offset = record { index = 0 }; part = record { index = 0 } }) in
     let is = at-any c.args.bytes.now c.loop-i.i _ byte c.loop-i-test.true in
     let item = each-at (IsSymByte c.args.terms.now) c.args.bytes.now c.loop-i.i byte c.requires.bytes c.loop-i-test.true is in
     record {

@@ -11,10 +11,10 @@ loop-place-preserved c =
     record {
       kept = keeps_trans c.args.terms.now a b c.loop-place.invariant.kept c.pointer_part.ensures.kept;
       made = rw c.in_ok-push.ensures.items made;
-      stands = λ r other. rw c.in_ok-push.ensures.items (parts_more c.args.terms.now a b c.loop-place.invariant.kept c.pointer_part.ensures.kept c.args.kind c.args.block c.args.offset now c.in_ok-byte.byte c.loop-place.place
-          c.requires.kind c.requires.block c.requires.offset c.loop-place.invariant.made c.loop-place-test.true r other (c.loop-place.invariant.stands r other) (c.in_ok-byte.ensures.stands r));
+      stands = λ r. rw c.in_ok-push.ensures.items (parts_more c.args.terms.now a b c.loop-place.invariant.kept c.pointer_part.ensures.kept c.args.is_part c.args.block c.args.offset now c.in_ok-byte.byte c.loop-place.place
+          c.requires.is_part c.requires.block c.requires.offset c.loop-place.invariant.made c.loop-place-test.true r (c.loop-place.invariant.stands r) (c.in_ok-byte.ensures.stands r));
     }
 
 pub returns-clause-stands : goal.returns-clause-stands
-returns-clause-stands c = λ r other.
-    rw c.from_vec.ensures (parts_all r c.args.terms.now c.loop-place.terms c.args.kind c.args.block c.args.offset c.loop-place.bytes.items c.loop-place.place c.loop-place-test.false c.loop-place.auto.place-end (c.loop-place.invariant.stands r other))
+returns-clause-stands c = λ r.
+    rw c.from_vec.ensures (parts_all r c.args.terms.now c.loop-place.terms c.args.is_part c.args.block c.args.offset c.loop-place.bytes.items c.loop-place.place c.loop-place-test.false (c.loop-place.invariant.stands r))

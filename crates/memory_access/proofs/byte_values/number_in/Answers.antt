@@ -1,4 +1,4 @@
-use Rattle.memory_access.proofs.Common.{◌≡◌, suc, ◌-◌, ◌+◌, length, inl, inr, sym, arith}
+use Rattle.memory_access.proofs.Common.{◌≡◌, suc, ◌-◌, ◌+◌, length, sym, arith}
 use Rattle.memory_access.proofs.ByteLists.{number_of-more, number_of-part, number_of-poison, number_of-none, number-below, number-room}
 use Rattle.memory_access.proofs.byte_values.number_in.Goals as goal
 
@@ -18,13 +18,12 @@ loop-i-preserved c =
     let more : suc (length c.args.bytes.now - c.loop-i.i) ≡ length c.args.bytes.now - (c.loop-i.i - 1) = omega arith in
     record {
       within = omega arith;
-      number = number_of-more c.args.bytes.now (c.loop-i.i - 1) c.in-Num.byte c.loop-i.number (omega arith) c.in-Num.is (rw at c.loop-i.invariant.number);
-      small = rw (← more) (number-below c.in-Num.byte c.loop-i.number (length c.args.bytes.now - c.loop-i.i) (omega arith) c.loop-i.invariant.small);
+      number = number_of-more c.args.bytes.now (c.loop-i.i - 1) c.in-Bits.byte c.in-Bits.mask c.loop-i.number (omega arith) c.in-Bits.is c.if-mask-ne0.false (rw at c.loop-i.invariant.number);
+      small = rw (← more) (number-below c.in-Bits.byte c.loop-i.number (length c.args.bytes.now - c.loop-i.i) (omega arith) c.loop-i.invariant.small);
     }
 
+pub returns-then-mask-ne0 : goal.returns-then-mask-ne0
+returns-then-mask-ne0 c = sym (number_of-none c.args.bytes.now (c.loop-i.i - 1) (number_of-poison c.args.bytes.now (c.loop-i.i - 1) c.in-Bits.byte c.in-Bits.mask (omega arith) c.in-Bits.is c.if-mask-ne0.true))
+
 pub returns-in-Part : goal.returns-in-Part
-returns-in-Part c =
-    elim c.in-Part.is [
-      | inl e ↦ sym (number_of-none c.args.bytes.now (c.loop-i.i - 1) (number_of-part c.args.bytes.now (c.loop-i.i - 1) e.0 e.1 (omega arith) e.2))
-      | inr e ↦ sym (number_of-none c.args.bytes.now (c.loop-i.i - 1) (number_of-poison c.args.bytes.now (c.loop-i.i - 1) (omega arith) e))
-    ]
+returns-in-Part c = sym (number_of-none c.args.bytes.now (c.loop-i.i - 1) (number_of-part c.args.bytes.now (c.loop-i.i - 1) c.in-Part.field-0 c.in-Part.field-1 (omega arith) c.in-Part.is))

@@ -9,4 +9,4 @@ pub returns-in-Some : goal.returns-in-Some
 returns-in-Some c = pointer_next c.args.layout.now c.args.pointer c.in-Some.next c.args.part (omega arith) c.requires.1 (omega arith) c.in-Some.ensures.0 c.in-Some.ensures.1
 
 pub returns-in-None : goal.returns-in-None
-returns-in-None c = poison_next c.args.layout.now c.args.pointer c.args.part (omega arith) c.requires.1 (omega arith) c.in-None.ensures
+returns-in-None c = poison_next c.args.layout.now c.args.pointer c.args.part (omega arith) c.requires.1 (omega arith) c.requires.0 c.in-None.ensures

@@ -9,7 +9,7 @@ pub byte_at-requires : goal.byte_at-requires
 byte_at-requires c = byte_here c.args.room c.loop-place._place c.loop-place.places.items c.loop-place.rest.now c.args.digits.now c.loop-place.invariant (omega arith)
 
 pub split_at-requires : goal.split_at-requires
-split_at-requires c = (byte_here c.args.room c.loop-place._place c.loop-place.places.items c.loop-place.rest.now c.args.digits.now c.loop-place.invariant (omega arith)).five
+split_at-requires c = (byte_here c.args.room c.loop-place._place c.loop-place.places.items c.loop-place.rest.now c.args.digits.now c.loop-place.invariant (omega arith)).six
 
 pub loop-place-preserved : goal.loop-place-preserved
 loop-place-preserved c = read_more c.args.room c.loop-place._place c.loop-place.places.items c.push.new.self.items c.loop-place.rest.now c.split_at.result.1.now c.args.digits.now c.byte_at.result c.loop-place.invariant (omega arith) c.in_ok-push.ensures.items c.byte_at.ensures c.split_at.ensures.back
