@@ -5,12 +5,14 @@
 
     --modules FOLDER   pairs that are written down: NAME-before.ll and NAME-after.ll, as in bench/modules
     --pointers N       only the pairs whose function has at least N pointers as parameters
+    --widths           only the pairs of bench/widths.ll
     --rows FILE        writes a line for each pair: name, row, milliseconds, with tabs between them
 
 Without --modules, clang 19 makes a module of bench/pairs.c without its passes; opt 19 runs sroa and mem2reg on it,
-which take its variables out of memory, and each of several function passes on what sroa leaves. Each function that a
-pass changed is a pair. Without clang-19 and opt-19 it then prints nothing. With --modules, each function of
-NAME-before.ll is a pair with the function of that name in NAME-after.ll; one that is named wrong_ is no refinement.
+which take its variables out of memory, and each of several function passes on what sroa leaves. On bench/widths.ll,
+which has integers of odd widths in memory, it runs sroa, instcombine and gvn. Each function that a pass changed is a
+pair. Without clang-19 and opt-19 it then prints nothing. With --modules, each function of NAME-before.ll is a pair with
+the function of that name in NAME-after.ll; one that is named wrong_ is no refinement.
 
 A pair is two modules of its own. Seconds are processor time, and so are all times that are printed. `tv` gets what
 TV_ARGS has, as in TV_ARGS="--bytes 16 --blocks 3". It prints the pairs decided within the time as a percentage, and of
@@ -30,6 +32,7 @@ import subprocess
 import tempfile
 
 MEMORY_PASSES = ["sroa", "mem2reg"]
+WIDTH_PASSES = ["sroa", "instcombine<no-verify-fixpoint>", "gvn", "sroa,instcombine<no-verify-fixpoint>,gvn"]
 PASSES = ["instcombine", "simplifycfg", "gvn", "early-cse", "reassociate", "sccp", "dse", "loop-mssa(licm)",
           "aggressive-instcombine,instcombine", "simplifycfg,instcombine,gvn"]
 FUNCTION = re.compile(r"^define .*?^}\n", re.M | re.S)
@@ -48,20 +51,33 @@ def opt(folder, source, passes):
         return functions(file.read())
 
 
+def changed_pairs(folder, source, every):
+    """The functions of a module that a pass changes, before and after it."""
+    with open(source) as file:
+        before = functions(file.read())
+    for passes in every:
+        after = opt(folder, source, f"function({passes})")
+        for name, body in before.items():
+            if after[name] != body:
+                yield passes, name, body, after[name]
+
+
+def width_pairs(folder):
+    here = os.path.dirname(os.path.abspath(__file__))
+    start = os.path.join(folder, "widths.ll")
+    subprocess.run(["opt-19", "-S", "-passes=", os.path.join(here, "widths.ll"), "-o", start], check=True)
+    yield from changed_pairs(folder, start, WIDTH_PASSES)
+
+
 def made_pairs(folder):
     here = os.path.dirname(os.path.abspath(__file__))
     raw, start = os.path.join(folder, "raw.ll"), os.path.join(folder, "start.ll")
     clang = ["clang-19", "-S", "-emit-llvm", "-O0", "-Xclang", "-disable-O0-optnone", "-fno-discard-value-names"]
     subprocess.run([*clang, os.path.join(here, "pairs.c"), "-o", raw], check=True)
     subprocess.run(["opt-19", "-S", "-passes=function(sroa)", raw, "-o", start], check=True)
-    for source, every in (raw, MEMORY_PASSES), (start, PASSES):
-        with open(source) as file:
-            before = functions(file.read())
-        for passes in every:
-            after = opt(folder, source, f"function({passes})")
-            for name, body in before.items():
-                if after[name] != body:
-                    yield passes, name, body, after[name]
+    yield from changed_pairs(folder, raw, MEMORY_PASSES)
+    yield from changed_pairs(folder, start, PASSES)
+    yield from width_pairs(folder)
 
 
 def written_pairs(folder):
@@ -142,13 +158,17 @@ def main():
     words.add_argument("seconds", nargs="?", type=float, default=10.0)
     words.add_argument("workers", nargs="?", type=int, default=2)
     words.add_argument("--modules")
+    words.add_argument("--widths", action="store_true")
     words.add_argument("--pointers", type=int, default=0)
     words.add_argument("--rows")
     given = words.parse_args()
     if not given.modules and not (shutil.which("clang-19") and shutil.which("opt-19")):
         return
     with tempfile.TemporaryDirectory() as folder:
-        made = written_pairs(given.modules) if given.modules else made_pairs(folder)
+        if given.modules:
+            made = written_pairs(given.modules)
+        else:
+            made = width_pairs(folder) if given.widths else made_pairs(folder)
         pairs = [pair for pair in made if pointers(pair[2]) >= given.pointers]
         with concurrent.futures.ThreadPoolExecutor(given.workers) as pool:
             answers = pool.map(lambda p: judged(given.tv, given.seconds, folder, *p), enumerate(pairs))
