@@ -3,15 +3,15 @@
 //! Sörensson and A. Biere, "Minimizing Learned Clauses", 2009), and the chain that resolves to it.
 
 use crate::search::Solver;
-use crate::tables::{byte_at, put_byte};
+use crate::tables::{at, byte_at, put, put_byte, short};
 use crate::trail::{opposite, variable_of};
 use std::alloc::Global;
-use support::{NoMemory, Sequence};
+use support::NoMemory;
 
 /// A clause, and the numbers of the clauses that it is resolved from.
 #[derive(Drop)]
 pub struct Learned {
-    pub chain: Sequence<u64>,
+    pub chain: Vec<u32>,
     /// The literal of the last level comes first.
     pub literals: Vec<u32>,
 }
@@ -19,7 +19,7 @@ pub struct Learned {
 /// A conflict on the way back.
 #[derive(Drop)]
 struct Walk {
-    chain: Sequence<u64>,
+    chain: Vec<u32>,
     /// The literals of earlier levels.
     early: Vec<u32>,
     /// How many marked literals of the last level are left.
@@ -30,7 +30,7 @@ impl Walk {
     /// No clause yet.
     fn new(alloc: Global) -> Walk {
         Walk {
-            chain: Sequence::from_vec(Vec::new(alloc)),
+            chain: Vec::new(alloc),
             early: Vec::new(alloc),
             open: 0,
         }
@@ -45,7 +45,7 @@ impl Solver {
 
     /// Resolves with a clause: its literals that weren't seen are marked.
     fn meet(&mut self, walk: &mut Walk, number: u32) -> Result<(), NoMemory> {
-        walk.chain.push(number as u64)?;
+        walk.chain.push(number)?;
         let span = self.clauses.span(number);
         for place in span.begin..span.end {
             let literal = self.clauses.literal(place);
@@ -102,20 +102,27 @@ impl Solver {
     /// literals than those that are marked, the last ones first.
     fn take_uncovered(
         &self,
-        chain: &mut Sequence<u64>,
+        chain: &mut Vec<u32>,
         mut early: Vec<u32>,
         literals: &mut Vec<u32>,
     ) -> Result<(), NoMemory> {
+        let mut covered: usize = 0;
+        for index in 0..early.len() {
+            let literal = at(&early, short(index));
+            let reason = self.trail.reason_of(variable_of(literal));
+            if reason > 0 && self.is_covered(reason) {
+                put(&mut early, short(covered), literal);
+                covered = covered.wrapping_add(1);
+            } else {
+                literals.push(literal)?;
+            }
+        }
+        early.truncate(covered);
         early.sort_unstable_by_key(|literal| {
             u32::MAX.wrapping_sub(self.trail.place_of(variable_of(*literal)))
         });
         for literal in early.iter() {
-            let reason = self.trail.reason_of(variable_of(*literal));
-            if reason > 0 && self.is_covered(reason) {
-                chain.push(reason as u64)?;
-            } else {
-                literals.push(*literal)?;
-            }
+            chain.push(self.trail.reason_of(variable_of(*literal)))?;
         }
         Ok(())
     }
@@ -154,7 +161,7 @@ impl Solver {
         let learned = self.traced(reason, literals)?;
         put_byte(&mut self.seen, variable_of(literal), 0);
         let is_short = learned.literals.len() == 1;
-        let number = self.keep(learned)?;
+        let number = self.keep(&learned)?;
         if is_short {
             self.go_back(0)?;
             self.force(opposite(literal), number)?;

@@ -6,12 +6,13 @@ use crate::luby::Luby;
 use crate::occurrences::Occurrences;
 use crate::order::Order;
 use crate::search::Solver;
+use crate::steps::Chains;
 use crate::tables::{put, short, zeros};
 use crate::trail::Trail;
 use crate::watches::Watches;
 use clause_lits::{Clause, Cnf, Lit};
 use std::alloc::Global;
-use support::{NoMemory, Sequence};
+use support::NoMemory;
 
 /// A search has fewer variables.
 const MOST_VARIABLES: u64 = 1 << 30;
@@ -32,33 +33,31 @@ fn codes_of(alloc: Global, clause: &Clause) -> Result<Vec<u32>, NoMemory> {
     Ok(codes)
 }
 
-/// The ranks of variables: first these, in their order, and then all others.
-fn ranks_of(alloc: Global, variables: usize, first: &[Lit]) -> Result<Vec<u32>, NoMemory> {
-    let mut ranks = zeros(alloc, variables)?;
-    let mut rank = 0;
+/// The first scores of variables: those of `first` are the greatest, in their order, and then come all
+/// others.
+fn firsts_of(alloc: Global, variables: usize, first: &[Lit]) -> Result<Vec<u32>, NoMemory> {
+    let mut firsts = zeros(alloc, variables)?;
     for index in 0..variables {
-        put(
-            &mut ranks,
-            short(index),
-            short(first.len().saturating_add(index)),
-        );
+        let score = short(variables.wrapping_sub(index));
+        put(&mut firsts, short(index), score);
     }
+    let mut score = short(variables.saturating_add(first.len()));
     for literal in first {
-        put(&mut ranks, short(literal.variable as usize), rank);
-        rank = rank.wrapping_add(1);
+        put(&mut firsts, short(literal.variable as usize), score);
+        score = score.wrapping_sub(1);
     }
-    Ok(ranks)
+    Ok(firsts)
 }
 
 impl Solver {
     /// No clauses yet, over this many variables and 0.
-    fn empty(alloc: Global, variables: usize, ranks: Vec<u32>) -> Result<Solver, NoMemory> {
+    fn empty(alloc: Global, variables: usize, firsts: Vec<u32>) -> Result<Solver, NoMemory> {
         Ok(Solver {
             alloc,
             clauses: Clauses::new(alloc)?,
             watches: Watches::new(alloc, variables.saturating_mul(2))?,
             trail: Trail::new(alloc, variables)?,
-            order: Order::new(alloc, variables, ranks)?,
+            order: Order::new(alloc, firsts)?,
             phases: vec![in alloc; 1; variables]?,
             seen: vec![in alloc; 0; variables]?,
             marked: Vec::new(alloc),
@@ -80,9 +79,8 @@ impl Solver {
             equalities: Vec::new(alloc),
             is_swept: false,
             is_reduced: false,
-            is_failed: false,
             luby: Luby::new(),
-            log: Sequence::from_vec(Vec::new(alloc)),
+            chains: Chains::new(alloc),
             taken: Vec::new(alloc),
         })
     }
@@ -94,8 +92,8 @@ impl Solver {
             return Ok(None);
         }
         let variables = (cnf.variables as usize).saturating_add(1);
-        let ranks = ranks_of(alloc, variables, first)?;
-        let mut solver = Solver::empty(alloc, variables, ranks)?;
+        let firsts = firsts_of(alloc, variables, first)?;
+        let mut solver = Solver::empty(alloc, variables, firsts)?;
         for clause in cnf.clauses.as_slice() {
             let literals = codes_of(alloc, clause)?;
             solver.give(&literals)?;
@@ -106,8 +104,8 @@ impl Solver {
 
     /// A solver of the same given clauses, which has learned nothing. It keeps the last values.
     pub fn renewed(&self) -> Result<Solver, NoMemory> {
-        let ranks = self.order.ranks(self.alloc)?;
-        let mut solver = Solver::empty(self.alloc, self.removed.len(), ranks)?;
+        let firsts = self.order.firsts(self.alloc)?;
+        let mut solver = Solver::empty(self.alloc, self.removed.len(), firsts)?;
         for number in 1..self.given.wrapping_add(1) {
             let literals = self.literals_of(number)?;
             solver.give(&literals)?;

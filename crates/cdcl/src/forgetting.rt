@@ -57,9 +57,10 @@ impl Solver {
         }
         self.rated.sort_unstable_by_key(|rated| rated.rank());
         let kept = self.rated.len() / 2;
-        let mut forgotten = vec![in self.alloc; 0; self.clauses.size()]?;
+        let mut forgotten = vec![in self.alloc; 0; self.clauses.end()]?;
         for rated in self.rated.iter().skip(kept) {
-            put_byte(&mut forgotten, rated.number, 1);
+            let begin = self.clauses.span(rated.number).begin;
+            put_byte(&mut forgotten, begin, 1);
         }
         self.rated.truncate(kept);
         self.watches.forget(&forgotten);

@@ -4,30 +4,8 @@ use crate::analysis::Learned;
 use crate::search::Solver;
 use crate::tables::put_byte;
 use crate::trail::variable_of;
-use clause_lits::{Clause, Lit, is_clause};
-use clause_log::Step;
-use smallvec::SmallVec;
 use std::alloc::Global;
-use support::{NoMemory, Sequence};
-
-/// The clause of these literals, or `None` where a variable is in it twice.
-fn clause_of(alloc: Global, literals: &[u32]) -> Result<Option<Clause>, NoMemory> {
-    let mut named: SmallVec<Lit, 4> = SmallVec::new(alloc);
-    for literal in literals {
-        named.push(Lit {
-            variable: variable_of(*literal) as u64,
-            positive: *literal & 1 == 0,
-        })?;
-    }
-    named
-        .as_mut_slice()
-        .sort_unstable_by_key(|literal| literal.variable);
-    if is_clause(named.as_slice()) {
-        Ok(Some(Clause::new(named)))
-    } else {
-        Ok(None)
-    }
-}
+use support::NoMemory;
 
 /// A list of a few numbers.
 pub fn chain_of(alloc: Global, numbers: &[u32]) -> Result<Vec<u32>, NoMemory> {
@@ -35,31 +13,15 @@ pub fn chain_of(alloc: Global, numbers: &[u32]) -> Result<Vec<u32>, NoMemory> {
 }
 
 impl Solver {
-    /// Adds a step to the log.
-    fn note(&mut self, literals: &[u32], chain: Sequence<u64>) -> Result<(), NoMemory> {
-        match clause_of(self.alloc, literals)? {
-            Some(clause) => self.log.push(Step { chain, clause })?,
-            None => self.is_failed = true,
-        }
-        Ok(())
-    }
-
     /// Adds a clause that was learned, and its step; its number. It is not watched.
-    pub fn keep(&mut self, learned: Learned) -> Result<u32, NoMemory> {
-        let Learned { chain, literals } = learned;
-        let number = self.clauses.add(&literals)?;
-        self.note(&literals, chain)?;
-        Ok(number)
+    pub fn keep(&mut self, learned: &Learned) -> Result<u32, NoMemory> {
+        self.add_step(&learned.literals, &learned.chain)
     }
 
     /// Adds a clause that is resolved from this chain, and its step; its number. It is not watched.
-    pub fn add_step(&mut self, literals: &[u32], numbers: &[u32]) -> Result<u32, NoMemory> {
-        let mut chain = Sequence::from_vec(Vec::new(self.alloc));
-        for number in numbers {
-            chain.push(*number as u64)?;
-        }
+    pub fn add_step(&mut self, literals: &[u32], chain: &[u32]) -> Result<u32, NoMemory> {
         let number = self.clauses.add(literals)?;
-        self.note(literals, chain)?;
+        self.chains.add(chain)?;
         Ok(number)
     }
 
@@ -72,7 +34,7 @@ impl Solver {
         self.go_back(level)?;
         let first = learned.literals.first().copied();
         let is_long = learned.literals.len() > 1;
-        let number = self.keep(learned)?;
+        let number = self.keep(&learned)?;
         if is_long {
             self.watch(number)?;
             self.rate(number, levels)?;

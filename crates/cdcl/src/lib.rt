@@ -25,6 +25,7 @@ mod order;
 mod patterns;
 mod propagation;
 mod search;
+mod steps;
 mod subsumption;
 mod sweeping;
 mod tables;

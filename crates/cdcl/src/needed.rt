@@ -5,7 +5,10 @@
 
 use crate::search::Solver;
 use crate::tables::{at, byte_at, put, put_byte, short};
+use crate::trail::variable_of;
+use clause_lits::{Clause, Lit, is_clause};
 use clause_log::{Log, Step};
+use smallvec::SmallVec;
 use support::{NoMemory, Sequence};
 
 impl Solver {
@@ -28,9 +31,9 @@ impl Solver {
 
     /// 1 for each step that the last one needs and that was not taken.
     fn needed(&self) -> Result<Vec<u8>, NoMemory> {
-        let mut needed = vec![in self.alloc; 0; self.log.len()]?;
-        put_byte(&mut needed, short(self.log.len()).wrapping_sub(1), 1);
-        for index in (0..self.log.len()).rev() {
+        let mut needed = vec![in self.alloc; 0; self.chains.len()]?;
+        put_byte(&mut needed, short(self.chains.len()).wrapping_sub(1), 1);
+        for index in (0..self.chains.len()).rev() {
             if byte_at(&needed, short(index)) == 1 {
                 self.need_chain(&mut needed, index);
             }
@@ -40,12 +43,8 @@ impl Solver {
 
     /// The steps that the chain of one names are needed, but for those that were taken.
     fn need_chain(&self, needed: &mut [u8], index: usize) {
-        let Some(step) = self.log.as_slice().get(index) else {
-            return;
-        };
-        for number in step.chain.as_slice() {
-            let number = short(*number as usize);
-            if number > self.given {
+        for number in self.chains.chain(index) {
+            if *number > self.given {
                 let earlier = number.wrapping_sub(self.given).wrapping_sub(1);
                 if at(&self.taken, earlier) == 0 {
                     put_byte(needed, earlier, 1);
@@ -54,29 +53,49 @@ impl Solver {
         }
     }
 
-    /// Adds a step to those that are taken.
+    /// Adds a step to those that are taken, if its clause has no variable twice.
     fn take_step(&self, log: &mut Log, index: usize) -> Result<(), NoMemory> {
-        if let Some(step) = self.log.as_slice().get(index) {
-            let chain = self.taken_chain(step.chain.as_slice())?;
-            let clause = step.clause.duplicate(self.alloc)?;
+        let number = self.given.wrapping_add(short(index)).wrapping_add(1);
+        if let Some(clause) = self.clause_of(number)? {
+            let chain = self.taken_chain(self.chains.chain(index))?;
             log.push(Step { chain, clause })?;
         }
         Ok(())
     }
 
+    /// The clause with a number, or `None` where a variable is in it twice.
+    fn clause_of(&self, number: u32) -> Result<Option<Clause>, NoMemory> {
+        let mut named: SmallVec<Lit, 4> = SmallVec::new(self.alloc);
+        let span = self.clauses.span(number);
+        for place in span.begin..span.end {
+            let literal = self.clauses.literal(place);
+            named.push(Lit {
+                variable: variable_of(literal) as u64,
+                positive: literal & 1 == 0,
+            })?;
+        }
+        named
+            .as_mut_slice()
+            .sort_unstable_by_key(|literal| literal.variable);
+        if is_clause(named.as_slice()) {
+            Ok(Some(Clause::new(named)))
+        } else {
+            Ok(None)
+        }
+    }
+
     /// A chain by the numbers of the steps that were taken.
-    fn taken_chain(&self, chain: &[u64]) -> Result<Sequence<u64>, NoMemory> {
-        let mut numbers = Sequence::from_vec(Vec::new(self.alloc));
+    fn taken_chain(&self, chain: &[u32]) -> Result<Sequence<u64>, NoMemory> {
+        let mut numbers = Vec::with_capacity(self.alloc, chain.len())?;
         for number in chain {
-            let number = short(*number as usize);
-            let new = if number > self.given {
+            let new = if *number > self.given {
                 let earlier = number.wrapping_sub(self.given).wrapping_sub(1);
                 at(&self.taken, earlier)
             } else {
-                number
+                *number
             };
             numbers.push(new as u64)?;
         }
-        Ok(numbers)
+        Ok(Sequence::from_vec(numbers))
     }
 }

@@ -5,7 +5,7 @@ use std::alloc::Global;
 use support::NoMemory;
 
 /// What the first conflict adds to a variable's score.
-const FIRST_RISE: u64 = 1 << 20;
+const FIRST_RISE: u64 = 1 << 24;
 
 /// Each conflict adds more than the one before, by this part of it.
 const RISE_PART: u64 = 19;
@@ -21,55 +21,61 @@ const BARRED: u32 = u32::MAX;
 /// No path in a heap is longer.
 const MOST_DEPTH: u32 = 32;
 
-/// Variables in a heap by their scores, the greatest first, and then by their ranks.
+/// Variables in a heap by their scores, the greatest first.
 #[derive(Drop)]
 pub struct Order {
     heap: Vec<u32>,
     /// Where each variable is in the heap, counted from 1; 0 where it isn't in it.
     places: Vec<u32>,
     scores: Vec<u64>,
-    /// Which of two variables of one score comes first: the one of the less rank.
-    ranks: Vec<u32>,
+    /// The score of each variable before a conflict, which is little beside what one adds.
+    firsts: Vec<u32>,
     rise: u64,
 }
 
 impl Order {
-    /// No variables in the heap, and none of this many has a score.
-    pub fn new(alloc: Global, variables: usize, ranks: Vec<u32>) -> Result<Order, NoMemory> {
+    /// No variables in the heap; these are their first scores.
+    pub fn new(alloc: Global, firsts: Vec<u32>) -> Result<Order, NoMemory> {
+        let mut scores = Vec::with_capacity(alloc, firsts.len())?;
+        for first in &firsts {
+            scores.push(*first as u64)?;
+        }
         Ok(Order {
             heap: Vec::new(alloc),
-            places: zeros(alloc, variables)?,
-            scores: vec![in alloc; 0; variables]?,
-            ranks,
+            places: zeros(alloc, firsts.len())?,
+            scores,
+            firsts,
             rise: FIRST_RISE,
         })
     }
 
-    /// The same, but with the greatest variable first and with no variable let into the heap.
+    /// The same of this many variables, but with the greatest variable first and with no variable let into
+    /// the heap.
     pub fn barred(alloc: Global, variables: usize) -> Result<Order, NoMemory> {
-        let mut ranks = zeros(alloc, variables)?;
+        let mut firsts = zeros(alloc, variables)?;
         for index in 0..variables {
-            put(&mut ranks, short(index), u32::MAX - short(index));
+            put(&mut firsts, short(index), short(index));
         }
-        let mut order = Order::new(alloc, variables, ranks)?;
+        let mut order = Order::new(alloc, firsts)?;
         for place in order.places.iter_mut() {
             *place = BARRED;
         }
         Ok(order)
     }
 
-    /// The variables' ranks.
-    pub fn ranks(&self, alloc: Global) -> Result<Vec<u32>, NoMemory> {
-        Ok(Vec::from_slice(alloc, &self.ranks)?)
+    /// The variables' first scores.
+    pub fn firsts(&self, alloc: Global) -> Result<Vec<u32>, NoMemory> {
+        Ok(Vec::from_slice(alloc, &self.firsts)?)
     }
 
-    /// Puts variables into the heap, without scores.
+    /// Puts variables into the heap, with their first scores.
     pub fn admit(&mut self, variables: &[u32]) -> Result<(), NoMemory> {
         self.rise = FIRST_RISE;
         for variable in variables {
             put(&mut self.places, *variable, 0);
+            let first = at(&self.firsts, *variable) as u64;
             if let Some(cell) = self.scores.get_mut(*variable as usize) {
-                *cell = 0;
+                *cell = first;
             }
             self.insert(*variable)?;
         }
@@ -88,16 +94,6 @@ impl Order {
         self.scores.get(variable as usize).copied().unwrap_or(0)
     }
 
-    /// Whether the first variable is decided before the second.
-    fn is_before(&self, a: u32, b: u32) -> bool {
-        let first = self.score(a);
-        let second = self.score(b);
-        if first == second {
-            return at(&self.ranks, a) < at(&self.ranks, b);
-        }
-        first > second
-    }
-
     /// Puts a variable at an index of the heap.
     fn place(&mut self, index: u32, variable: u32) {
         put(&mut self.heap, index, variable);
@@ -106,6 +102,7 @@ impl Order {
 
     /// Moves a variable up from an index.
     fn rise_from(&mut self, index: u32, variable: u32) {
+        let score = self.score(variable);
         let mut here = index;
         for _ in 0..MOST_DEPTH {
             if here == 0 {
@@ -113,7 +110,7 @@ impl Order {
             }
             let parent = here.wrapping_sub(1) / 2;
             let above = at(&self.heap, parent);
-            if !self.is_before(variable, above) {
+            if self.score(above) >= score {
                 break;
             }
             self.place(here, above);
@@ -127,12 +124,13 @@ impl Order {
         let left = index.wrapping_mul(2).wrapping_add(1);
         let right = left.wrapping_add(1);
         let is_right = right < count(&self.heap)
-            && self.is_before(at(&self.heap, right), at(&self.heap, left));
+            && self.score(at(&self.heap, right)) > self.score(at(&self.heap, left));
         if is_right { right } else { left }
     }
 
     /// Moves a variable down from the top.
     fn sink(&mut self, variable: u32) {
+        let score = self.score(variable);
         let mut here = 0;
         for _ in 0..MOST_DEPTH {
             let child = self.first_child(here);
@@ -140,7 +138,7 @@ impl Order {
                 break;
             }
             let below = at(&self.heap, child);
-            if !self.is_before(below, variable) {
+            if score >= self.score(below) {
                 break;
             }
             self.place(here, below);

@@ -2,6 +2,7 @@
 
 use crate::clauses::Span;
 use crate::search::Solver;
+use crate::tables::short;
 use crate::trail::opposite;
 use crate::watches::Watch;
 use support::NoMemory;
@@ -49,7 +50,7 @@ impl Solver {
                     Visit::Stays(watch) => Some(watch),
                     Visit::Moves => None,
                     Visit::Fails(watch) => {
-                        conflict = watch.number();
+                        conflict = self.clauses.number_at(watch.begin());
                         Some(watch)
                     }
                 }
@@ -76,12 +77,12 @@ impl Solver {
         if watch.is_short() {
             return self.follow(watch);
         }
-        let span = self.clauses.span(watch.number());
+        let span = self.clauses.span_at(watch.begin());
         let second = span.begin.wrapping_add(1);
         if self.clauses.literal(span.begin) == literal {
             self.clauses.swap(span.begin, second);
         }
-        let watch = Watch::new(watch.number(), false, self.clauses.literal(span.begin));
+        let watch = Watch::new(span.begin, false, self.clauses.literal(span.begin));
         if self.trail.is_true(watch.other) {
             return Ok(Visit::Stays(watch));
         }
@@ -90,6 +91,7 @@ impl Solver {
         };
         let next = self.clauses.literal(place);
         self.clauses.swap(second, place);
+        self.clauses.go_on_at(span.begin, place);
         self.watches.add(next, watch)?;
         Ok(Visit::Moves)
     }
@@ -99,29 +101,38 @@ impl Solver {
         if self.trail.is_false(watch.other) {
             return Ok(Visit::Fails(watch));
         }
-        self.trail.assign(watch.other, watch.number())?;
+        let number = self.clauses.number_at(watch.begin());
+        self.trail.assign(watch.other, number)?;
         Ok(Visit::Stays(watch))
     }
 
-    /// The place of a literal that isn't watched and not false.
+    /// The place of a literal that isn't watched and not false, from where the last search stopped on.
     fn replacement(&self, span: Span) -> Option<u32> {
-        for place in span.begin.saturating_add(2)..span.end {
-            if !self.trail.is_false(self.clauses.literal(place)) {
-                return Some(place);
-            }
+        let from = self.clauses.goes_on_at(span.begin);
+        match self.open_literal(from, span.end) {
+            Some(place) => Some(place),
+            None => self.open_literal(span.begin.wrapping_add(2), from),
         }
-        None
+    }
+
+    /// The first place of a literal that isn't false, from one place up to another.
+    fn open_literal(&self, begin: u32, end: u32) -> Option<u32> {
+        let literals = self.clauses.literals(begin, end);
+        let index = literals
+            .iter()
+            .position(|literal| !self.trail.is_false(*literal))?;
+        Some(begin.wrapping_add(short(index)))
     }
 
     /// Watches the literals at the first two places of a clause.
     pub fn watch(&mut self, number: u32) -> Result<(), NoMemory> {
         let span = self.clauses.span(number);
-        let is_short = self.clauses.length(number) == 2;
+        let is_short = span.end.wrapping_sub(span.begin) == 2;
         let first = self.clauses.literal(span.begin);
         let second = self.clauses.literal(span.begin.wrapping_add(1));
         self.watches
-            .add(first, Watch::new(number, is_short, second))?;
+            .add(first, Watch::new(span.begin, is_short, second))?;
         self.watches
-            .add(second, Watch::new(number, is_short, first))
+            .add(second, Watch::new(span.begin, is_short, first))
     }
 }

@@ -6,11 +6,11 @@ use crate::forgetting::Rated;
 use crate::luby::Luby;
 use crate::occurrences::Occurrences;
 use crate::order::Order;
+use crate::steps::Chains;
 use crate::tables::{byte_at, put_byte, short};
 use crate::trail::Trail;
 use crate::watches::Watches;
 use clause_lits::{Assignment, Lit};
-use clause_log::Log;
 use std::alloc::Global;
 use support::{NoMemory, Sequence};
 
@@ -77,10 +77,9 @@ pub struct Solver {
     pub(crate) is_swept: bool,
     /// Whether variables were tried, to resolve them away.
     pub(crate) is_reduced: bool,
-    /// Whether a step could not be made.
-    pub(crate) is_failed: bool,
     pub(crate) luby: Luby,
-    pub(crate) log: Log,
+    /// The chains of the clauses that were learned.
+    pub(crate) chains: Chains,
     /// The number of each step that was taken, among the clauses of who took it; 0 for others.
     pub(crate) taken: Vec<u32>,
 }
@@ -93,7 +92,6 @@ pub enum Course {
     Full,
     /// There is no model under what is assumed.
     None,
-    Failed,
 }
 
 impl Solver {
@@ -109,7 +107,7 @@ impl Solver {
         Ok(match course {
             Course::Full => Guessed::Model(self.values()?),
             Course::None => Guessed::None,
-            Course::GoesOn | Course::Failed => Guessed::Spent,
+            Course::GoesOn => Guessed::Spent,
         })
     }
 
@@ -143,9 +141,6 @@ impl Solver {
             } else {
                 self.decide_next(assumed)?
             };
-            if self.is_failed {
-                return Ok(Course::Failed);
-            }
             if course != Course::GoesOn || left == 0 {
                 return Ok(course);
             }
@@ -165,7 +160,7 @@ impl Solver {
     fn meet_conflict(&mut self, conflict: u32) -> Result<Course, NoMemory> {
         if self.trail.level() == 0 {
             let learned = self.refutation(conflict)?;
-            self.conflict = self.keep(learned)?;
+            self.conflict = self.keep(&learned)?;
             return Ok(Course::None);
         }
         self.learn(conflict)?;

@@ -74,7 +74,7 @@ impl Solver {
             definitions: Definitions::of(alloc, variables, &self.clauses, self.given, front)?,
             patterns: Patterns::new(alloc, variables)?,
             window: Window::new(alloc, variables)?,
-            most_steps: (self.log.len() as u64).saturating_add(most),
+            most_steps: (self.chains.len() as u64).saturating_add(most),
             most_looks: self.looks.saturating_add(most.saturating_mul(LOOKS)),
         })
     }
@@ -82,8 +82,7 @@ impl Solver {
     /// Whether the sweep ends.
     fn is_done(&self, sweep: &Sweep) -> bool {
         self.conflict > 0
-            || self.is_failed
-            || self.log.len() as u64 >= sweep.most_steps
+            || self.chains.len() as u64 >= sweep.most_steps
             || self.looks >= sweep.most_looks
             || !self.clauses.has_room()
     }

@@ -15,24 +15,24 @@ const SHORT: u32 = 1 << 31;
 /// A clause that watches a literal.
 #[derive(Clone, Copy)]
 pub struct Watch {
-    /// The number of the clause, and its bit.
+    /// Where the literals of the clause begin, and its bit.
     clause: u32,
     /// Another literal of the clause.
     pub other: u32,
 }
 
 impl Watch {
-    /// The watch of a clause with this number, which has two literals or more, with another of them.
-    pub fn new(number: u32, is_short: bool, other: u32) -> Watch {
+    /// The watch of a clause whose literals begin here, which are two or more, with another of them.
+    pub fn new(begin: u32, is_short: bool, other: u32) -> Watch {
         let bit = if is_short { SHORT } else { 0 };
         Watch {
-            clause: number | bit,
+            clause: begin | bit,
             other,
         }
     }
 
-    /// The number of the clause.
-    pub fn number(self) -> u32 {
+    /// Where the literals of the clause begin.
+    pub fn begin(self) -> u32 {
         self.clause & !SHORT
     }
 
@@ -90,10 +90,10 @@ impl Watches {
         Ok(())
     }
 
-    /// Takes the watches of the clauses away that are marked by 1.
+    /// Takes the watches of the clauses away whose first literals' places are marked by 1.
     pub fn forget(&mut self, marks: &[u8]) {
         for list in self.lists.iter_mut() {
-            list.retain(|watch| byte_at(marks, watch.number()) == 0);
+            list.retain(|watch| byte_at(marks, watch.begin()) == 0);
         }
     }
 }

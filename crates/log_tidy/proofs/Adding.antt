@@ -1,5 +1,5 @@
 -- Steps within those of a log, each with no earlier clause within it.
-use Rattle.log_tidy.proofs.Common.{ℕ, ◌≡◌, ◌≤◌, ◌+◌, ◌-◌, ◌++◌, ◌⊎◌, inl, inr, List, [], ◌∷◌, Some, None, length, slice_get, take, arith, sym, ap, subst, refl, ◌∙◌, append_assoc, cases_lt, length_push, slice_get_within, Lit, Step, Has, chain_resolvent, clause_numbered, EndsEmpty, IsSoundAt, Refutes, standing_before, ContainsClause, IsCareful, standing, get-kept, get-last, Index, IsWithin, IsEntered, IsFound, IsIndexed, IsListed, AreTidied, IsAdded, RefutesCarefully}
+use Rattle.log_tidy.proofs.Common.{ℕ, ◌≡◌, ◌≤◌, ◌+◌, ◌-◌, ◌++◌, ◌⊎◌, inl, inr, List, [], ◌∷◌, Some, None, length, slice_get, take, arith, sym, ap, subst, refl, ◌∙◌, append_assoc, cases_lt, length_push, slice_get_within, Lit, Step, Has, chain_resolvent, clause_numbered, EndsEmpty, IsSoundAt, Refutes, standing_before, ContainsClause, IsCareful, standing, get-kept, get-last, Index, IsEntered, IsFound, IsIndexed, IsListed, AreTidied, IsAdded, RefutesCarefully}
 use Rattle.clause_search.proofs.Findings.{length-standing}
 use Rattle.log_tidy.proofs.Numbered.{clauses_of, left-numbered, numbered-from, numbered-left, numbered-within}
 use Rattle.log_tidy.proofs.Links.{alone-derived}
@@ -39,16 +39,7 @@ indexed-more cs c old new number indexed its entered = record {
 }
 
 module _ (clauses : List (List Lit)) (kept : List Step) (step : Step) where
-  -- a clause within it is there already
-  pub added-none : (index : Index) (number : ℕ) → IsCareful clauses kept → IsIndexed (standing clauses kept) index → IsWithin (standing clauses kept) step.clause number
-      → IsAdded clauses kept kept index step.clause number
-  added-none index number careful indexed within = record {
-    stands = record { careful = careful; indexed = indexed };
-    grown = λ n d at. at;
-    within = within;
-  }
-
-  -- or it is added itself
+  -- a step that no earlier clause lies within is added
   pub added-one : (old new : Index) (number : ℕ) → IsCareful clauses kept → IsIndexed (standing clauses kept) old → IsFound (standing clauses kept) step.clause None
       → chain_resolvent (standing clauses kept) step.chain ≡ Some step.clause → number ≡ length clauses + length kept + 1 → IsEntered old new number step.clause
       → IsAdded clauses kept (kept ++ step ∷ []) new step.clause number

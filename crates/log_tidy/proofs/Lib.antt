@@ -7,3 +7,4 @@ pub mod Listed
 pub mod Marked
 pub mod Numbered
 pub mod Pushed
+pub mod Signatures

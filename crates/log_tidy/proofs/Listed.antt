@@ -1,7 +1,8 @@
 -- Which entries an index has.
-use Rattle.log_tidy.proofs.Common.{ℕ, zero, suc, ◌≡◌, ◌<◌, ◌+◌, ◌%◌, ◌++◌, ◌⊎◌, inl, inr, Bool, true, false, cond, List, [], ◌∷◌, Some, None, length, slice_get, get_or, take, arith, sym, ap, subst, refl, ◌∙◌, slice_set, cases_eq, get_or-set_other, get_or-set_same, length-set, take_more, get_or_from_slice_get, slice_get_within, Lit, Has, clause_numbered, Entry, Index, IsWithin, AreCovered, AreNone, IsEntered, IsFound, IsIndexed, IsListed, IsPut, IsSized, slot, IsMarked}
+use Rattle.log_tidy.proofs.Common.{ℕ, zero, suc, ◌≡◌, ◌<◌, ◌+◌, ◌%◌, ◌++◌, ◌⊎◌, inl, inr, Bool, true, false, cond, List, [], ◌∷◌, Some, None, length, slice_get, get_or, take, arith, sym, ap, subst, refl, ◌∙◌, slice_set, cases_eq, length-set, take_more, get_or_from_slice_get, slice_get_within, Lit, Has, clause_numbered, Entry, Index, IsWithin, AreNone, IsEntered, IsFound, IsIndexed, IsListed, IsPut, IsSized, Covers, Signature, signature, slot}
 use Rattle.std.proofs.Math.Nat.{mod-lt}
 use Rattle.log_tidy.proofs.Numbered.{numbered-from}
+use Rattle.log_tidy.proofs.Signatures.{signature-covers}
 
 module _ {X : Type 0} where
   pub item-last : (xs : List X) (x y : X) → Has (xs ++ x ∷ []) y → Has xs y ⊎ (x ≡ y)
@@ -51,31 +52,12 @@ numbered-has cs c h = let p = place cs h in (p.0 + 1, numbered-from cs (p.0 + 1)
     place (d ∷ ds) (inl e) = (0, ap (λ (x : List Lit). Some x) e)
     place (d ∷ ds) (inr g) = let p = place ds g in (suc p.0, p.1)
 
--- marks by one more literal
-pub covered-more : (half : ℕ) (marks more : List Bool) (value : Bool) (c : List Lit) (i : ℕ) (d : Lit) → i < length c → slot half (get_or c i d) < length marks
-    → more ≡ slice_set marks (slot half (get_or c i d)) value
-    → (value ≡ true → AreCovered half marks (take i c)) → value ≡ true → AreCovered half more (take (i + 1) c)
-covered-more half marks more value c i d lt room is before on l has =
-    let k = slot half (get_or c i d) in
-    let set : more ≡ slice_set marks k true = is ∙ ap (λ b. slice_set marks k b) on in
-    ap (λ (ms : List Bool). get_or ms (slot half l) false) set
-    ∙ elim (cases_eq (slot half l) k) [
-      | inl e ↦ ap (λ n. get_or (slice_set marks k true) n false) e ∙ get_or-set_same marks k true false room
-      | inr ne ↦
-          get_or-set_other marks k (slot half l) true false ne
-          ∙ elim (item-more c i d l lt has) [
-            | inl g ↦ before on l g
-            | inr same ↦ absurd (ne (ap (slot half) (sym same)))
-          ]
-    ]
-
 -- one more entry keeps the others
-pub put-entered : (old new : Index) (number : ℕ) (c : List Lit) (literal hint : Lit) → IsSized old → Has c literal → Has c hint → slot old.half literal < old.half + old.half
-    → IsPut old new number literal hint → IsEntered old new number c
-put-entered old new number c literal hint s has hinted lt put =
+pub put-entered : (old new : Index) (c : List Lit) (literal : Lit) (entry : Entry) → IsSized old → Has c literal → entry.signature ≡ signature c → slot old.half literal < old.half + old.half
+    → IsPut old new literal entry → IsEntered old new entry.number c
+put-entered old new c literal entry s has signed lt put =
     let lists = old.lists.items in
     let k = slot old.half literal in
-    let entry : Entry = record { number = number; hint = slot old.half hint } in
     let list = get_or lists k [] in
     let after = slice_set lists k (list ++ entry ∷ []) in
     let room : k < length lists = omega (arith, lt, s.lists) in
@@ -85,10 +67,9 @@ put-entered old new number c literal hint s has hinted lt put =
         some = subst (λ n. 0 < n) (sym put.half) s.some;
         small = subst (λ n. n + n < 18446744073709551616) (sym put.half) s.small;
         lists = ap length put.lists ∙ (length-set lists k (list ++ entry ∷ []) ∙ (s.lists ∙ sym (ap (λ n. n + n) put.half)));
-        marks = ap length put.marks ∙ (s.marks ∙ sym (ap (λ n. n + n) put.half));
       };
       kept = λ n d h. moved n d (kept-listed k list entry room refl n d h);
-      own = moved number c (record {
+      own = moved entry.number c (record {
         literal = literal;
         has = has;
         list = list ++ entry ∷ [];
@@ -96,14 +77,12 @@ put-entered old new number c literal hint s has hinted lt put =
         entry = entry;
         among = item-own list entry;
         same = refl;
-        hint = hint;
-        hinted = hinted;
-        slot_is = refl;
+        signed = signed;
       });
     }
   where
     moved : (n : ℕ) (d : List Lit)
-        → IsListed old.half (slice_set old.lists.items (slot old.half literal) (get_or old.lists.items (slot old.half literal) [] ++ record { number = number; hint = slot old.half hint } ∷ [])) n d
+        → IsListed old.half (slice_set old.lists.items (slot old.half literal) (get_or old.lists.items (slot old.half literal) [] ++ entry ∷ [])) n d
         → IsListed new.half new.lists.items n d
     moved n d h =
         subst (λ m. IsListed m new.lists.items n d) (sym put.half)
@@ -122,9 +101,7 @@ put-entered old new number c literal hint s has hinted lt put =
             entry = h.entry;
             among = item-early list entry h.entry (subst (λ (es : List Entry). Has es h.entry) (sym its) h.among);
             same = h.same;
-            hint = h.hint;
-            hinted = h.hinted;
-            slot_is = h.slot_is;
+            signed = h.signed;
           }
       | inr ne ↦ record {
         literal = h.literal;
@@ -134,34 +111,32 @@ put-entered old new number c literal hint s has hinted lt put =
         entry = h.entry;
         among = h.among;
         same = h.same;
-        hint = h.hint;
-        hinted = h.hinted;
-        slot_is = h.slot_is;
+        signed = h.signed;
       }
     ]
 
 -- one more literal of whose slot no entry is of a clause within this one
-pub none-more : (clauses : List (List Lit)) (half : ℕ) (lists : List (List Entry)) (marks : List Bool) (c : List Lit) (i : ℕ) (d : Lit) (found : List Entry) → i < length c
-    → slice_get lists (slot half (get_or c i d)) ≡ Some found → AreNone clauses found marks c
-    → ((l : Lit) (list : List Entry) → Has (take i c) l → slice_get lists (slot half l) ≡ Some list → AreNone clauses list marks c)
-    → (l : Lit) (list : List Entry) → Has (take (i + 1) c) l → slice_get lists (slot half l) ≡ Some list → AreNone clauses list marks c
-none-more clauses half lists marks c i d found lt at none before l list has here = elim (item-more c i d l lt has) [
+pub none-more : (clauses : List (List Lit)) (half : ℕ) (lists : List (List Entry)) (own : Signature) (c : List Lit) (i : ℕ) (d : Lit) (found : List Entry) → i < length c
+    → slice_get lists (slot half (get_or c i d)) ≡ Some found → AreNone clauses found own c
+    → ((l : Lit) (list : List Entry) → Has (take i c) l → slice_get lists (slot half l) ≡ Some list → AreNone clauses list own c)
+    → (l : Lit) (list : List Entry) → Has (take (i + 1) c) l → slice_get lists (slot half l) ≡ Some list → AreNone clauses list own c
+none-more clauses half lists own c i d found lt at none before l list has here = elim (item-more c i d l lt has) [
   | inl g ↦ before l list g here
   | inr same ↦
       let there : slice_get lists (slot half (get_or c i d)) ≡ Some list = ap (λ (m : Lit). slice_get lists (slot half m)) same ∙ here in
       let both : found ≡ list = cc in
-      subst (λ (es : List Entry). AreNone clauses es marks c) both none
+      subst (λ (es : List Entry). AreNone clauses es own c) both none
 ]
 
 -- where no list of a literal has one, no clause lies within this one
-pub none-found : (clauses : List (List Lit)) (index : Index) (c : List Lit) → IsIndexed clauses index → AreCovered index.half index.marks c
-    → ((l : Lit) (list : List Entry) → Has c l → slice_get index.lists.items (slot index.half l) ≡ Some list → AreNone clauses list index.marks c)
+pub none-found : (clauses : List (List Lit)) (index : Index) (c : List Lit) → IsIndexed clauses index
+    → ((l : Lit) (list : List Entry) → Has c l → slice_get index.lists.items (slot index.half l) ≡ Some list → AreNone clauses list (signature c) c)
     → IsFound clauses c None
-none-found clauses index c h covered none d among contains =
+none-found clauses index c h none d among contains =
     let numbered = numbered-has clauses d among in
     let its = h.each numbered.0 d numbered.1 in
     none its.literal its.list (contains its.literal its.has) its.at its.entry its.among (
-      subst (λ n. IsMarked index.marks n) (sym its.slot_is) (covered its.hint (contains its.hint its.hinted)),
+      subst (λ (s : Signature). Covers (signature c) s) (sym its.signed) (signature-covers c d contains),
       subst (λ n. IsWithin clauses c n) (sym its.same) (d, numbered.1, contains),
     )
 

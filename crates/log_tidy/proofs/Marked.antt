@@ -1,5 +1,5 @@
 -- Which steps are marked, from the last one down.
-use Rattle.log_tidy.proofs.Common.{ℕ, ◌≡◌, ◌<◌, ◌+◌, ◌-◌, ◌++◌, ◌⊎◌, inl, inr, Bool, true, false, List, [], ◌∷◌, Some, length, get_or, slice_get, arith, sym, ap, subst, ◌∙◌, replicate, cases_eq, cases_lt, get_or-replicate, get_or_past, length-replicate, slice_get_within, Step, Has, AreMarked, IsBelow, IsMarked, IsMarking}
+use Rattle.log_tidy.proofs.Common.{ℕ, ◌≡◌, ◌+◌, ◌-◌, ◌++◌, ◌⊎◌, inl, inr, Bool, true, false, List, [], ◌∷◌, Some, length, get_or, slice_get, arith, sym, ap, subst, ◌∙◌, replicate, cases_eq, cases_lt, get_or-replicate, get_or_past, length-replicate, slice_get_within, Step, Has, AreMarked, IsBelow, IsMarked, IsMarking}
 
 pub has-last : (xs : List ℕ) (x y : ℕ) → Has (xs ++ x ∷ []) y → Has xs y ⊎ Has (x ∷ []) y
 has-last [] x y h = inr h

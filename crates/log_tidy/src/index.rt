@@ -1,16 +1,16 @@
 //! The index that finds a clause within another one, which it subsumes.
 //!
 //! Each earlier clause is listed under one of its literals, the one whose list is shortest so far,
-//! with a second literal of it as a hint. A clause that it lies within has both: so the literals of
-//! that one are marked and their lists searched, without the entries whose hint isn't marked.
+//! with a signature of two words: each of its literals sets a bit in each. A clause that it lies within
+//! has each of them set in its own signature, so most of the entries in the lists of a clause's literals
+//! are passed over without a look at their clauses.
 
-ghost use Rattle.std.specs.Prelude.{◌≡◌, ◌<◌, ◌+◌, ◌↔◌, [], true, IfOk, IsTrue, OnOk, length};
+ghost use Rattle.std.specs.Prelude.{◌≡◌, ◌<◌, ◌≤◌, ◌+◌, ◌↔◌, [], true, IfOk, IsTrue, OnOk, length};
 ghost use Rattle.clause_log.specs.Members.{Has};
 ghost use Rattle.clause_search.specs.Searching.{standing};
 ghost use Rattle.log_tidy.specs.Inclusion as inclusion;
 ghost use Rattle.log_tidy.specs.Indexed as spec;
-ghost use Rattle.log_tidy.specs.Indexed.{AreCovered, IsEntered, IsFirst, IsFound, IsHit, IsIndexed, IsPut, IsSized};
-ghost use Rattle.log_tidy.specs.Marks.{IsMarked};
+ghost use Rattle.log_tidy.specs.Indexed.{Covers, IsEntered, IsFirst, IsFound, IsHit, IsIndexed, IsPut, IsSized};
 
 use crate::inclusion::includes;
 use clause_lits::{Clause, Lit};
@@ -18,19 +18,26 @@ use clause_log::{Step, clause_numbered};
 use std::alloc::Global;
 use support::{NoMemory, Sequence};
 
-/// The number of a clause, and the slot of one of its literals.
+/// Bits of a clause's literals: each literal sets one in each word, by its sign and its variable's
+/// remainder. The two remainders differ, since one word of a long clause has most of its bits set.
+#[derive(Clone, Copy, Debug, PartialEq, Eq)]
+pub struct Signature {
+    pub first: u64,
+    pub second: u64,
+}
+
+/// The number of a clause, and its signature.
 #[derive(Clone, Copy, Debug, PartialEq, Eq)]
 pub struct Entry {
     pub number: u64,
-    pub hint: usize,
+    pub signature: Signature,
 }
 
-/// Entries of clauses, each in the slot of one of its literals, and a mark for each slot.
+/// Entries of clauses, each in the slot of one of its literals.
 #[derive(Drop)]
 pub struct Index {
     pub half: usize,
     pub lists: Vec<Sequence<Entry>>,
-    pub marks: Sequence<bool>,
 }
 
 /// The slot of a literal among twice `half` slots.
@@ -44,11 +51,40 @@ fn slot(half: usize, literal: Lit) -> usize
     if literal.positive { rest } else { half + rest }
 }
 
-/// Whether the slot is marked.
-fn is_marked(marks: &Sequence<bool>, slot: usize) -> bool
-    ensures { IsTrue result ↔ IsMarked marks.now slot }
+/// How many remainders a variable has in a signature's first word.
+const FIRST_REMAINDERS: usize = 32;
+
+/// How many remainders a variable has in a signature's second word.
+const SECOND_REMAINDERS: usize = 31;
+
+/// The bits of a clause's literals in one word of a signature.
+fn bits(half: usize, clause: &Clause) -> u64
+    requires some { 0 < half }
+    requires small { half ≤ 32 }
+    ensures { result ≡ spec.bits half clause.now }
 {
-    slot < marks.len() && *marks.get(slot)
+    let mut bits = 0;
+    for literal in clause.literals() {
+        bits |= 1 << slot(half, *literal);
+    }
+    bits
+}
+
+/// The signature of a clause. That of a clause within another has no bit that the other's has not.
+fn signature_of(clause: &Clause) -> Signature
+    ensures { result ≡ spec.signature clause.now }
+{
+    Signature {
+        first: bits(FIRST_REMAINDERS, clause),
+        second: bits(SECOND_REMAINDERS, clause),
+    }
+}
+
+/// Whether a signature has each bit of another.
+fn covers(whole: Signature, part: Signature) -> bool
+    ensures { IsTrue result ↔ Covers whole part }
+{
+    part.first | whole.first == whole.first && part.second | whole.second == whole.second
 }
 
 /// Whether the number is of an earlier clause within this one.
@@ -61,52 +97,39 @@ fn is_within(clauses: &[Clause], steps: &[Step], number: u64, clause: &Clause) -
     }
 }
 
-/// Whether the entry's hint is marked, and the entry is of an earlier clause within this one.
+/// Whether the entry is of an earlier clause within the one that has this signature.
 fn is_hit(
     clauses: &[Clause],
     steps: &[Step],
     entry: Entry,
-    marks: &Sequence<bool>,
+    signature: Signature,
     clause: &Clause,
 ) -> bool
-    ensures { IsTrue result ↔ IsHit (standing clauses.now steps.now) marks.now clause.now entry }
+    ensures { IsTrue result ↔ IsHit (standing clauses.now steps.now) signature clause.now entry }
 {
-    if is_marked(marks, entry.hint) {
+    if covers(signature, entry.signature) {
         is_within(clauses, steps, entry.number, clause)
     } else {
         false
     }
 }
 
-/// The first of the entries that is of an earlier clause within this one.
+/// The first of the entries that is of an earlier clause within the one that has this signature.
 fn first_within(
     clauses: &[Clause],
     steps: &[Step],
     entries: &[Entry],
-    marks: &Sequence<bool>,
+    signature: Signature,
     clause: &Clause,
 ) -> Option<u64>
-    ensures { IsFirst (standing clauses.now steps.now) entries.now marks.now clause.now result }
+    ensures { IsFirst (standing clauses.now steps.now) entries.now signature clause.now result }
 {
     for entry in entries {
-        if is_hit(clauses, steps, *entry, marks, clause) {
+        if is_hit(clauses, steps, *entry, signature, clause) {
             return Some(entry.number);
         }
     }
     None
-}
-
-/// Marks the slots of a clause's literals, or takes the marks away.
-fn mark(marks: &mut Sequence<bool>, half: usize, clause: &Clause, value: bool)
-    requires some { 0 < half }
-    requires small { half + half < 18446744073709551616 }
-    requires sized { length marks.old ≡ half + half }
-    ensures sized { length marks.new ≡ half + half }
-    ensures covered { value ≡ true → AreCovered half marks.new clause.now }
-{
-    for literal in clause.literals() {
-        marks.set(slot(half, *literal), value);
-    }
 }
 
 impl Index {
@@ -121,13 +144,7 @@ impl Index {
         for _slot in 0..count {
             lists.push(Sequence::from_vec(Vec::new(alloc)))?;
         }
-        let mut marks = Vec::new(alloc);
-        marks.resize(count, false)?;
-        Ok(Index {
-            half,
-            lists,
-            marks: Sequence::from_vec(marks),
-        })
+        Ok(Index { half, lists })
     }
 
     /// The literal of a clause whose list is shortest.
@@ -162,58 +179,36 @@ impl Index {
             unreachable!()
         };
         let literal = self.rarest(clause, *first);
-        let hint = other_literal(clause, *first, literal);
-        self.enter(number, literal, hint)
+        self.enter(
+            literal,
+            Entry {
+                number,
+                signature: signature_of(clause),
+            },
+        )
     }
 
     /// Enters a clause in the slot of a literal.
-    fn enter(&mut self, number: u64, literal: Lit, hint: Lit) -> Result<(), NoMemory>
+    fn enter(&mut self, literal: Lit, entry: Entry) -> Result<(), NoMemory>
         requires { IsSized self.old }
-        ensures { OnOk result (IsPut self.old self.new number literal hint) }
+        ensures { OnOk result (IsPut self.old self.new literal entry) }
     {
-        let hint = slot(self.half, hint);
         let place = slot(self.half, literal);
-        self.lists[place].push(Entry { number, hint })
+        self.lists[place].push(entry)
     }
 
     /// The number of an earlier clause that lies within this one, if there is one.
-    pub fn find(&mut self, clauses: &[Clause], steps: &[Step], clause: &Clause) -> Option<u64>
-        requires { IsIndexed (standing clauses.now steps.now) self.old }
-        ensures found { IsFound (standing clauses.now steps.now) clause.now result }
-        ensures indexed { IsIndexed (standing clauses.now steps.now) self.new }
-    {
-        mark(&mut self.marks, self.half, clause, true);
-        let found = self.found(clauses, steps, clause);
-        mark(&mut self.marks, self.half, clause, false);
-        found
-    }
-
-    /// The number of an earlier clause within this one, whose slots are marked.
-    fn found(&self, clauses: &[Clause], steps: &[Step], clause: &Clause) -> Option<u64>
-        requires indexed { IsIndexed (standing clauses.now steps.now) self.now }
-        requires covered { AreCovered self.now.half self.now.marks clause.now }
+    pub fn find(&self, clauses: &[Clause], steps: &[Step], clause: &Clause) -> Option<u64>
+        requires { IsIndexed (standing clauses.now steps.now) self.now }
         ensures { IsFound (standing clauses.now steps.now) clause.now result }
     {
+        let signature = signature_of(clause);
         for literal in clause.literals() {
             let list = self.lists[slot(self.half, *literal)].as_slice();
-            if let Some(number) = first_within(clauses, steps, list, &self.marks, clause) {
+            if let Some(number) = first_within(clauses, steps, list, signature, clause) {
                 return Some(number);
             }
         }
         None
-    }
-}
-
-/// A literal of the clause, the first or the last one, other than this one if there is another.
-fn other_literal(clause: &Clause, first: Lit, literal: Lit) -> Lit
-    requires { Has clause.now first }
-    ensures { Has clause.now result }
-{
-    if first.variable != literal.variable {
-        return first;
-    }
-    match clause.literals().last() {
-        Some(last) => *last,
-        None => first,
     }
 }

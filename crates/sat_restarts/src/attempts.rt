@@ -1,9 +1,9 @@
 //! Searches of the same clauses that take turns.
 //!
-//! Clauses that are hard in one order are often easy in another. So a second solver has a turn where the
-//! first one had one, and each goes on where it stopped; then a search in order, which is quick where few
-//! clauses count something, as pigeons in holes. The next turns are longer, and the first solver begins them
-//! anew with equal gates, which products and divisions have, unless conflicts are counted. Nothing of a
+//! Clauses that are hard in one order are often easy in another. After a first solver a search in order has
+//! a turn, which is quick where few clauses count something, as pigeons in holes, and from the second round
+//! on another solver, which begins with equal gates, which products and divisions have, unless conflicts are
+//! counted. Each solver goes on where it stopped, and each round is longer than the one before. Nothing of a
 //! guess is promised.
 
 use crate::budget::Budget;
@@ -16,12 +16,17 @@ use std::alloc::Global;
 use support::NoMemory;
 use watch_solver::{Answer, solve};
 
-/// How many conflicts the first turns have.
+/// How many conflicts the first turn has.
 const FIRST_LENGTH: u64 = 3000;
 
-/// A search in order learns as many clauses as a turn has conflicts where there are this many clauses, and
-/// fewer in proportion where there are more.
-const ORDERED_CLAUSES: u64 = 1000;
+/// A round is so many times as long as the one before.
+const GROWTH: u64 = 2;
+
+/// The second solver has one conflict for so many of the first one.
+const SECOND_PART: u64 = 2;
+
+/// How many clauses a search in order learns in the first round, times how many clauses there are.
+const FIRST_ORDERED: u64 = 1_000_000;
 
 /// What is guessed of clauses.
 #[derive(Drop)]
@@ -33,28 +38,37 @@ pub enum Guess {
     Nothing,
 }
 
+/// Whose turn it is.
+#[derive(Clone, Copy, PartialEq, Eq)]
+enum Turn {
+    First,
+    InOrder,
+    Second,
+}
+
 /// The solvers that had a turn, and whose turn it is.
 #[derive(Drop)]
 pub struct Attempts {
     alloc: Global,
-    solvers: Vec<Solver>,
-    /// How many solvers take turns.
-    count: usize,
-    turn: usize,
-    /// How many conflicts a turn has.
+    first: Option<Solver>,
+    second: Option<Solver>,
+    turn: Turn,
+    /// How many conflicts a turn of the first solver has.
     length: u64,
+    /// How many clauses a search in order learns, times how many there are.
+    ordered: u64,
 }
 
 impl Attempts {
-    /// No solver had a turn. Where no word has several bits there is one order and one solver.
-    pub fn new(alloc: Global, widths: &[u32]) -> Attempts {
-        let has_orders = widths.iter().any(|width| *width > 1);
+    /// No solver had a turn.
+    pub fn new(alloc: Global) -> Attempts {
         Attempts {
             alloc,
-            solvers: Vec::new(alloc),
-            count: if has_orders { 2 } else { 1 },
-            turn: 0,
+            first: None,
+            second: None,
+            turn: Turn::First,
             length: FIRST_LENGTH,
+            ordered: FIRST_ORDERED,
         }
     }
 
@@ -65,58 +79,54 @@ impl Attempts {
         widths: &[u32],
         budget: &mut Budget,
     ) -> Result<Guess, NoMemory> {
-        if self.turn == self.count {
-            self.guess_in_order(cnf, budget)
-        } else {
-            self.guess_by_solver(cnf, widths, budget)
+        match self.turn {
+            Turn::First => self.guess_first(cnf, widths, budget),
+            Turn::InOrder => self.guess_in_order(cnf, budget),
+            Turn::Second => self.guess_second(cnf, budget),
         }
     }
 
-    /// What the solver whose turn it is guesses; nothing where there is none.
-    fn guess_by_solver(
+    /// What the first solver guesses, which begins with the least significant bits; nothing where there are
+    /// too many variables.
+    fn guess_first(
         &mut self,
         cnf: &Cnf,
         widths: &[u32],
         budget: &mut Budget,
     ) -> Result<Guess, NoMemory> {
-        let sweeps = self.turn == 0 && self.length > FIRST_LENGTH && !budget.is_limited();
         let most = budget.take(self.length);
-        self.begin(cnf, widths)?;
-        let Some(solver) = self.solvers.get_mut(self.turn) else {
-            return Ok(Guess::Nothing);
-        };
-        if sweeps {
-            sweep_once(cnf.front, solver)?;
+        if self.first.is_none() {
+            let order = by_significance(self.alloc, widths)?;
+            self.first = Solver::of(self.alloc, cnf, &order)?;
         }
-        Ok(match guess_under(cnf.front, solver, &[], most)? {
-            Guessed::Model(values) => Guess::Model(values),
-            Guessed::None => Guess::Refuted(solver.take_needed(cnf.clauses.len() as u64)?),
-            Guessed::Spent => Guess::Nothing,
-        })
+        match &mut self.first {
+            Some(solver) => guess_by(cnf, solver, most),
+            None => Ok(Guess::Nothing),
+        }
     }
 
-    /// Makes the solver whose turn it is, if it had none before and there are not too many variables. The
-    /// first one begins with the least significant bits, the second one with the first variables.
-    fn begin(&mut self, cnf: &Cnf, widths: &[u32]) -> Result<(), NoMemory> {
-        if self.turn < self.solvers.len() {
-            return Ok(());
+    /// What the second solver guesses, which begins with the first variables.
+    fn guess_second(&mut self, cnf: &Cnf, budget: &mut Budget) -> Result<Guess, NoMemory> {
+        let sweeps = !budget.is_limited();
+        let most = budget.take(self.length / SECOND_PART);
+        if self.second.is_none() {
+            self.second = Solver::of(self.alloc, cnf, &[])?;
         }
-        let made = if self.turn == 0 {
-            let first = by_significance(self.alloc, widths)?;
-            Solver::of(self.alloc, cnf, &first)?
-        } else {
-            Solver::of(self.alloc, cnf, &[])?
-        };
-        if let Some(solver) = made {
-            self.solvers.push(solver)?;
+        match &mut self.second {
+            Some(solver) => {
+                if sweeps {
+                    sweep_once(cnf.front, solver)?;
+                }
+                guess_by(cnf, solver, most)
+            }
+            None => Ok(Guess::Nothing),
         }
-        Ok(())
     }
 
     /// What a search in order finds.
     fn guess_in_order(&mut self, cnf: &Cnf, budget: &mut Budget) -> Result<Guess, NoMemory> {
         let clauses = (cnf.clauses.len() as u64).max(1);
-        let most = budget.take(self.length.saturating_mul(ORDERED_CLAUSES) / clauses);
+        let most = budget.take(self.ordered / clauses);
         if most == 0 {
             return Ok(Guess::Nothing);
         }
@@ -127,13 +137,26 @@ impl Attempts {
         })
     }
 
-    /// The next one's turn. Where each had one the next turns are twice as long.
+    /// The next one's turn. Where each had one the next turns are longer; the second solver has none in the
+    /// first round.
     pub fn advance(&mut self) {
-        if self.turn < self.count {
-            self.turn = self.turn.wrapping_add(1);
-        } else {
-            self.turn = 0;
-            self.length = self.length.saturating_mul(2);
-        }
+        self.turn = match self.turn {
+            Turn::First => Turn::InOrder,
+            Turn::InOrder if self.length > FIRST_LENGTH => Turn::Second,
+            Turn::InOrder | Turn::Second => {
+                self.length = self.length.saturating_mul(GROWTH);
+                self.ordered = self.ordered.saturating_mul(2);
+                Turn::First
+            }
+        };
     }
+}
+
+/// What a solver guesses by at most this many conflicts more.
+fn guess_by(cnf: &Cnf, solver: &mut Solver, most: u64) -> Result<Guess, NoMemory> {
+    Ok(match guess_under(cnf.front, solver, &[], most)? {
+        Guessed::Model(values) => Guess::Model(values),
+        Guessed::None => Guess::Refuted(solver.take_needed(cnf.clauses.len() as u64)?),
+        Guessed::Spent => Guess::Nothing,
+    })
 }

@@ -109,7 +109,7 @@ pub fn guessed(
 ) -> Result<Option<Searched>, NoMemory>
     ensures { IfOk result (λ found. IfSome found (IsSearched cnf.now.variables cnf.now.clauses None)) }
 {
-    let mut attempts = Attempts::new(alloc, widths);
+    let mut attempts = Attempts::new(alloc);
     'turns: for _ in 0..u64::MAX {
         match attempts.guess(cnf, widths, budget)? {
             Guess::Nothing => {}
