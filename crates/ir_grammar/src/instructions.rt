@@ -12,7 +12,7 @@ use crate::cursor::Cursor;
 use ir_lexer::Kind;
 use ir_tree::{Cast, Flags, IrType, Op, Predicate};
 use ir_words::{
-    ExactWord, Flag, LineWord, Opcode, WrapWord, WrittenInst, WrittenIntType, WrittenLine,
+    Boxed, ExactWord, Flag, LineWord, Opcode, WrapWord, WrittenInst, WrittenIntType, WrittenLine,
     WrittenName, WrittenType, WrittenTyped, WrittenValue, exact_op, wrapping_op,
 };
 use token_forms::ReadFault;
@@ -133,24 +133,31 @@ impl<'a, 'b> Cursor<'a, 'b> {
         into: WrittenName,
         op: Op,
         of_type: WrittenIntType,
-    ) -> Result<WrittenInst, ReadFault>
+    ) -> Result<Boxed<WrittenInst>, ReadFault>
         ensures { Reads (λ x. x) result self.new (read true (spec.binary into op of_type) self.old) }
     {
         let undef_too = !is_division(op);
         let left = self.operand(undef_too, IrType::Int(of_type.width))?;
         self.mark(b",".as_slice())?;
         let right = self.operand(undef_too, IrType::Int(of_type.width))?;
-        Ok(WrittenInst::Binary {
-            into,
-            op,
-            of_type,
-            left,
-            right,
-        })
+        Ok(Boxed::new(
+            self.alloc(),
+            WrittenInst::Binary {
+                into,
+                op,
+                of_type,
+                left,
+                right,
+            },
+        )?)
     }
 
     #[tactic(auto, unfolding(crate::specs::Instructions::wrapping))]
-    fn wrapping(&mut self, into: WrittenName, word: WrapWord) -> Result<WrittenInst, ReadFault>
+    fn wrapping(
+        &mut self,
+        into: WrittenName,
+        word: WrapWord,
+    ) -> Result<Boxed<WrittenInst>, ReadFault>
         ensures { Reads (λ x. x) result self.new (read true (spec.wrapping into word) self.old) }
     {
         let flags = self.wraps(false);
@@ -159,7 +166,7 @@ impl<'a, 'b> Cursor<'a, 'b> {
     }
 
     #[tactic(auto, unfolding(crate::specs::Instructions::exact))]
-    fn exact(&mut self, into: WrittenName, word: ExactWord) -> Result<WrittenInst, ReadFault>
+    fn exact(&mut self, into: WrittenName, word: ExactWord) -> Result<Boxed<WrittenInst>, ReadFault>
         ensures { Reads (λ x. x) result self.new (read true (spec.exact into word) self.old) }
     {
         let (exact, of_type) = self.flagged_type(Flag::Exact)?;
@@ -167,7 +174,7 @@ impl<'a, 'b> Cursor<'a, 'b> {
     }
 
     #[tactic(auto, unfolding(crate::specs::Instructions::plain))]
-    fn plain(&mut self, into: WrittenName, op: Op) -> Result<WrittenInst, ReadFault>
+    fn plain(&mut self, into: WrittenName, op: Op) -> Result<Boxed<WrittenInst>, ReadFault>
         ensures { Reads (λ x. x) result self.new (read true (spec.plain into op) self.old) }
     {
         let of_type = self.int_type()?;
@@ -175,7 +182,7 @@ impl<'a, 'b> Cursor<'a, 'b> {
     }
 
     #[tactic(auto, unfolding(crate::specs::Instructions::disjunction))]
-    fn disjunction(&mut self, into: WrittenName) -> Result<WrittenInst, ReadFault>
+    fn disjunction(&mut self, into: WrittenName) -> Result<Boxed<WrittenInst>, ReadFault>
         ensures { Reads (λ x. x) result self.new (read true (spec.disjunction into) self.old) }
     {
         let (disjoint, of_type) = self.flagged_type(Flag::Disjoint)?;
@@ -183,7 +190,7 @@ impl<'a, 'b> Cursor<'a, 'b> {
     }
 
     #[tactic(auto, unfolding(crate::specs::Instructions::icmp))]
-    fn icmp(&mut self, into: WrittenName) -> Result<WrittenInst, ReadFault>
+    fn icmp(&mut self, into: WrittenName) -> Result<Boxed<WrittenInst>, ReadFault>
         ensures { Reads (λ x. x) result self.new (read true (spec.icmp into) self.old) }
     {
         let (same_sign, predicate) = self.comparison()?;
@@ -191,14 +198,17 @@ impl<'a, 'b> Cursor<'a, 'b> {
         let left = self.operand(true, IrType::Int(of_type.width))?;
         self.mark(b",".as_slice())?;
         let right = self.operand(true, IrType::Int(of_type.width))?;
-        Ok(WrittenInst::Icmp {
-            into,
-            predicate,
-            same_sign,
-            of_type,
-            left,
-            right,
-        })
+        Ok(Boxed::new(
+            self.alloc(),
+            WrittenInst::Icmp {
+                into,
+                predicate,
+                same_sign,
+                of_type,
+                left,
+                right,
+            },
+        )?)
     }
 
     #[tactic(auto, unfolding(crate::specs::Instructions::cast_by))]
@@ -207,23 +217,26 @@ impl<'a, 'b> Cursor<'a, 'b> {
         into: WrittenName,
         cast: Cast,
         from: WrittenIntType,
-    ) -> Result<WrittenInst, ReadFault>
+    ) -> Result<Boxed<WrittenInst>, ReadFault>
         ensures { Reads (λ x. x) result self.new (read true (spec.cast_by into cast from) self.old) }
     {
         let operand = self.operand(true, IrType::Int(from.width))?;
         self.word(b"to".as_slice())?;
         let to = self.int_type()?;
-        Ok(WrittenInst::Cast {
-            into,
-            cast,
-            from,
-            operand,
-            to,
-        })
+        Ok(Boxed::new(
+            self.alloc(),
+            WrittenInst::Cast {
+                into,
+                cast,
+                from,
+                operand,
+                to,
+            },
+        )?)
     }
 
     #[tactic(auto, unfolding(crate::specs::Instructions::truncate))]
-    fn truncate(&mut self, into: WrittenName) -> Result<WrittenInst, ReadFault>
+    fn truncate(&mut self, into: WrittenName) -> Result<Boxed<WrittenInst>, ReadFault>
         ensures { Reads (λ x. x) result self.new (read true (spec.truncate into) self.old) }
     {
         let flags = self.wraps(true);
@@ -232,7 +245,7 @@ impl<'a, 'b> Cursor<'a, 'b> {
     }
 
     #[tactic(auto, unfolding(crate::specs::Instructions::zero_extend))]
-    fn zero_extend(&mut self, into: WrittenName) -> Result<WrittenInst, ReadFault>
+    fn zero_extend(&mut self, into: WrittenName) -> Result<Boxed<WrittenInst>, ReadFault>
         ensures { Reads (λ x. x) result self.new (read true (spec.zero_extend into) self.old) }
     {
         let (non_negative, from) = self.flagged_type(Flag::NonNegative)?;
@@ -240,7 +253,7 @@ impl<'a, 'b> Cursor<'a, 'b> {
     }
 
     #[tactic(auto, unfolding(crate::specs::Instructions::sign_extend))]
-    fn sign_extend(&mut self, into: WrittenName) -> Result<WrittenInst, ReadFault>
+    fn sign_extend(&mut self, into: WrittenName) -> Result<Boxed<WrittenInst>, ReadFault>
         ensures { Reads (λ x. x) result self.new (read true (spec.sign_extend into) self.old) }
     {
         let from = self.int_type()?;
@@ -274,35 +287,42 @@ impl<'a, 'b> Cursor<'a, 'b> {
     }
 
     #[tactic(auto, unfolding(crate::specs::Instructions::select))]
-    fn select(&mut self, into: WrittenName) -> Result<WrittenInst, ReadFault>
+    fn select(&mut self, into: WrittenName) -> Result<Boxed<WrittenInst>, ReadFault>
         ensures { Reads (λ x. x) result self.new (read true (spec.select into) self.old) }
     {
         let bit = self.bit_type()?;
         let condition = self.operand(true, IrType::Int(one_bit()))?;
         let of_integers = is_undef(&condition.value);
         self.mark(b",".as_slice())?;
-        let if_true = self.arm(of_integers)?;
+        let if_true = Boxed::new(self.alloc(), self.arm(of_integers)?)?;
         self.mark(b",".as_slice())?;
-        let if_false = self.arm(of_integers)?;
-        Ok(WrittenInst::Select {
-            into,
-            bit,
-            condition,
-            if_true,
-            if_false,
-        })
+        let if_false = Boxed::new(self.alloc(), self.arm(of_integers)?)?;
+        Ok(Boxed::new(
+            self.alloc(),
+            WrittenInst::Select {
+                into,
+                bit,
+                condition,
+                if_true,
+                if_false,
+            },
+        )?)
     }
 
     #[tactic(auto, unfolding(crate::specs::Instructions::freeze))]
-    fn freeze(&mut self, into: WrittenName) -> Result<WrittenInst, ReadFault>
+    fn freeze(&mut self, into: WrittenName) -> Result<Boxed<WrittenInst>, ReadFault>
         ensures { Reads (λ x. x) result self.new (read true (spec.freeze into) self.old) }
     {
         let value = self.typed(true)?;
-        Ok(WrittenInst::Freeze { into, value })
+        Ok(Boxed::new(self.alloc(), WrittenInst::Freeze { into, value })?)
     }
 
     // What follows the word of an instruction.
-    fn inst_by(&mut self, into: WrittenName, opcode: Opcode) -> Result<WrittenInst, ReadFault>
+    fn inst_by(
+        &mut self,
+        into: WrittenName,
+        opcode: Opcode,
+    ) -> Result<Boxed<WrittenInst>, ReadFault>
         ensures { Reads (λ x. x) result self.new (read true (spec.inst_by into opcode) self.old) }
     {
         match opcode {

@@ -17,7 +17,7 @@ use ir_items::{name_before_colon, name_behind_sign};
 use ir_lexer::{Kind, Token};
 use ir_tree::Reason;
 use ir_words::{
-    LineStart, WrittenInst, WrittenLine, WrittenLines, WrittenName, WrittenPhi, is_spelled,
+    Boxed, LineStart, WrittenInst, WrittenLine, WrittenLines, WrittenName, WrittenPhi, is_spelled,
     reason_at, some_digits,
 };
 use std::alloc::Global;
@@ -119,7 +119,7 @@ fn add_phi(so_far: &mut WrittenLines, phi: WrittenPhi) -> Result<(), ReadFault>
 }
 
 // Adds a line to the lines. They change in place: each may have more than 100 bytes.
-fn add_line(so_far: &mut WrittenLines, line: WrittenLine) -> Result<(), ReadFault>
+fn add_line(alloc: Global, so_far: &mut WrittenLines, line: WrittenLine) -> Result<(), ReadFault>
     ensures { Reads (λ u. so_far.new) result [] (reads (spec.with_line so_far.old line) []) }
 {
     match line {
@@ -134,16 +134,20 @@ fn add_line(so_far: &mut WrittenLines, line: WrittenLine) -> Result<(), ReadFaul
         }
         WrittenLine::Entries(phi) | WrittenLine::Phi(phi) => add_phi(so_far, phi),
         WrittenLine::Access(access) => {
-            let align = default_align(&access);
-            add_inst(so_far, WrittenInst::Access { access, align })
+            let align = default_align(access.get());
+            let inst = Boxed::new(alloc, WrittenInst::Access { access, align })?;
+            add_inst(so_far, inst)
         }
-        WrittenLine::Indices(gep) => add_inst(so_far, WrittenInst::GetElementPtr(gep)),
+        WrittenLine::Indices(gep) => {
+            let inst = Boxed::new(alloc, WrittenInst::GetElementPtr(gep))?;
+            add_inst(so_far, inst)
+        }
         WrittenLine::Inst(inst) => add_inst(so_far, inst),
     }
 }
 
 // Adds an instruction that is no phi to the lines.
-fn add_inst(so_far: &mut WrittenLines, inst: WrittenInst) -> Result<(), ReadFault>
+fn add_inst(so_far: &mut WrittenLines, inst: Boxed<WrittenInst>) -> Result<(), ReadFault>
     ensures { Reads (λ u. so_far.new) result [] (reads (spec.with_inst so_far.old inst) []) }
 {
     so_far.insts.push(inst)?;
@@ -306,7 +310,7 @@ impl<'a, 'b> Cursor<'a, 'b> {
         let number = MOST_INSTS.saturating_sub(so_far.room);
         let started = self.started(phi_too, number, start)?;
         let line = self.behind_commas(started)?;
-        add_line(so_far, line)
+        add_line(self.alloc(), so_far, line)
     }
 
     // One more line, if one begins here, and whether one did.

@@ -13,9 +13,9 @@ use crate::lists::pushed;
 use ir_lexer::Kind;
 use ir_tree::{IrType, Reason, type_align};
 use ir_words::{
-    WrittenAccess, WrittenGep, WrittenIndex, WrittenInst, WrittenIntType, WrittenLine, WrittenName,
-    WrittenType, WrittenTyped, alignment, is_pointer, reason_at, type_reason_at, width_in,
-    width_reason_at,
+    Boxed, WrittenAccess, WrittenGep, WrittenIndex, WrittenInst, WrittenIntType, WrittenLine,
+    WrittenName, WrittenType, WrittenTyped, alignment, is_pointer, reason_at, type_reason_at,
+    width_in, width_reason_at,
 };
 use token_forms::ReadFault;
 
@@ -63,11 +63,12 @@ impl<'a, 'b> Cursor<'a, 'b> {
         ensures { Reads (λ x. x) result self.new (read true (spec.alloca into number) self.old) }
     {
         let of_type = self.alloca_object()?;
-        Ok(WrittenLine::Access(WrittenAccess::Alloca {
+        let access = WrittenAccess::Alloca {
             into,
             number,
             of_type,
-        }))
+        };
+        Ok(WrittenLine::Access(Boxed::new(self.alloc(), access)?))
     }
 
     /// Reads a load after its word.
@@ -78,11 +79,12 @@ impl<'a, 'b> Cursor<'a, 'b> {
         let of_type = self.value_type()?;
         self.mark(b",".as_slice())?;
         let pointer = self.pointer()?;
-        Ok(WrittenLine::Access(WrittenAccess::Load {
+        let access = WrittenAccess::Load {
             into,
             of_type,
             pointer,
-        }))
+        };
+        Ok(WrittenLine::Access(Boxed::new(self.alloc(), access)?))
     }
 
     /// Reads a store after its word.
@@ -95,7 +97,8 @@ impl<'a, 'b> Cursor<'a, 'b> {
         self.mark(b",".as_slice())?;
         let pointer = self.pointer()?;
         let value = WrittenTyped { of_type, operand };
-        Ok(WrittenLine::Access(WrittenAccess::Store { value, pointer }))
+        let access = WrittenAccess::Store { value, pointer };
+        Ok(WrittenLine::Access(Boxed::new(self.alloc(), access)?))
     }
 
     /// Reads a getelementptr after its word, up to its first index.
@@ -104,8 +107,9 @@ impl<'a, 'b> Cursor<'a, 'b> {
         ensures { Reads (λ x. x) result self.new (read true (spec.gep into) self.old) }
     {
         let (flags, of_type) = self.gep_object()?;
+        let of_type = Boxed::new(self.alloc(), of_type)?;
         self.mark(b",".as_slice())?;
-        let base = self.pointer()?;
+        let base = Boxed::new(self.alloc(), self.pointer()?)?;
         Ok(WrittenLine::Indices(WrittenGep {
             into,
             flags,
@@ -132,11 +136,12 @@ impl<'a, 'b> Cursor<'a, 'b> {
     }
 
     #[tactic(auto, unfolding(crate::specs::Instructions::aligned))]
-    fn aligned(&mut self, access: WrittenAccess) -> Result<WrittenLine, ReadFault>
+    fn aligned(&mut self, access: Boxed<WrittenAccess>) -> Result<WrittenLine, ReadFault>
         ensures { Reads (λ x. x) result self.new (read true (spec.aligned access) self.old) }
     {
         let align = self.alignment()?;
-        Ok(WrittenLine::Inst(WrittenInst::Access { access, align }))
+        let inst = Boxed::new(self.alloc(), WrittenInst::Access { access, align })?;
+        Ok(WrittenLine::Inst(inst))
     }
 
     /// Passes the number of a line's first attachment, after its word.
@@ -149,15 +154,19 @@ impl<'a, 'b> Cursor<'a, 'b> {
 
     /// Reads what follows a comma where an alignment is allowed: that, or an attachment.
     #[tactic(auto, unfolding(crate::specs::Instructions::align_or_attachment))]
-    pub fn align_or_attachment(&mut self, access: WrittenAccess) -> Result<WrittenLine, ReadFault>
+    pub fn align_or_attachment(
+        &mut self,
+        access: Boxed<WrittenAccess>,
+    ) -> Result<WrittenLine, ReadFault>
         ensures { Reads (λ x. x) result self.new (read true (spec.align_or_attachment access) self.old) }
     {
         if self.eat_word(b"align".as_slice()) {
             return self.aligned(access);
         }
         self.attachment_word()?;
-        let align = default_align(&access);
-        self.attached(WrittenLine::Inst(WrittenInst::Access { access, align }))
+        let align = default_align(access.get());
+        let inst = Boxed::new(self.alloc(), WrittenInst::Access { access, align })?;
+        self.attached(WrittenLine::Inst(inst))
     }
 
     // Reads the type of an index, if one is next.
@@ -228,6 +237,7 @@ impl<'a, 'b> Cursor<'a, 'b> {
             return self.next_index(gep, of_type);
         }
         self.attachment_or_type()?;
-        self.attached(WrittenLine::Inst(WrittenInst::GetElementPtr(gep)))
+        let inst = Boxed::new(self.alloc(), WrittenInst::GetElementPtr(gep))?;
+        self.attached(WrittenLine::Inst(inst))
     }
 }

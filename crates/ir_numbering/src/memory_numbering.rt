@@ -133,13 +133,14 @@ pub fn gep(alloc: Global, names: &mut Names, gep: WrittenGep) -> Result<Inst, No
         indices: written,
     } = gep;
     let into = number(names, into.name)?;
-    let base = value(names, base.operand.value)?;
+    let WrittenTyped { operand, .. } = base.into_inner();
+    let base = value(names, operand.value)?;
     let indices = indices(alloc, names, written)?;
     Ok(Inst::GetElementPtr {
         into,
         inbounds: flags.inbounds,
         nuw: flags.nuw,
-        of_type: of_type.of_type,
+        of_type: of_type.into_inner().of_type,
         base,
         indices,
     })

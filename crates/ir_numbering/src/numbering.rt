@@ -15,7 +15,7 @@ use ir_tree::{
     TypedOperand,
 };
 use ir_words::{
-    WrittenBlock, WrittenBody, WrittenInst, WrittenIntType, WrittenName, WrittenOperand,
+    Boxed, WrittenBlock, WrittenBody, WrittenInst, WrittenIntType, WrittenName, WrittenOperand,
     WrittenParameter, WrittenTyped, WrittenValue,
 };
 use std::alloc::Global;
@@ -190,15 +190,15 @@ fn select(
     names: &mut Names,
     into: Name,
     condition: WrittenValue,
-    if_true: WrittenTyped,
-    if_false: WrittenTyped,
+    if_true: Boxed<WrittenTyped>,
+    if_false: Boxed<WrittenTyped>,
 ) -> Result<Inst, NoMemory>
     ensures { Numbers result names.new (spec.select_in names.old into condition if_true if_false) }
 {
     let into = number(names, into)?;
     let condition = value(names, condition)?;
-    let if_true = typed(names, if_true)?;
-    let if_false = typed(names, if_false)?;
+    let if_true = typed(names, if_true.into_inner())?;
+    let if_false = typed(names, if_false.into_inner())?;
     Ok(Inst::Select {
         into,
         condition,
@@ -265,7 +265,7 @@ fn inst(alloc: Global, names: &mut Names, inst: WrittenInst) -> Result<Inst, NoM
         WrittenInst::Access {
             access: written,
             align,
-        } => access(names, written, align),
+        } => access(names, written.into_inner(), align),
         WrittenInst::GetElementPtr(written) => gep(alloc, names, written),
     }
 }
@@ -307,13 +307,13 @@ fn parameters(
 pub fn insts(
     alloc: Global,
     names: &mut Names,
-    insts: Sequence<WrittenInst>,
+    insts: Sequence<Boxed<WrittenInst>>,
 ) -> Result<Sequence<Inst>, NoMemory>
     ensures { Numbers result names.new (each_in inst_in names.old insts) }
 {
     let mut numbered = Vec::with_capacity(alloc, insts.len())?;
     for one in insts.into_vec() {
-        numbered.push(inst(alloc, names, one)?)?;
+        numbered.push(inst(alloc, names, one.into_inner())?)?;
     }
     Ok(Sequence::from_vec(numbered))
 }

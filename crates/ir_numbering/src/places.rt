@@ -5,9 +5,9 @@ ghost use Rattle.ir_numbering.specs.Places.{typed_places, access_places, index_p
 
 use ir_grammar::WrittenFunction;
 use ir_words::{
-    WrittenAccess, WrittenBlock, WrittenBody, WrittenCase, WrittenEntry, WrittenGep, WrittenIndex,
-    WrittenInst, WrittenName, WrittenParameter, WrittenPhi, WrittenReturn, WrittenTerminator,
-    WrittenTyped,
+    Boxed, WrittenAccess, WrittenBlock, WrittenBody, WrittenCase, WrittenEntry, WrittenGep,
+    WrittenIndex, WrittenInst, WrittenName, WrittenParameter, WrittenPhi, WrittenReturn,
+    WrittenTerminator, WrittenTyped,
 };
 use std::alloc::Global;
 use support::{NoMemory, Sequence};
@@ -138,17 +138,17 @@ fn add_gep(places: &mut Sequence<Place>, gep: &WrittenGep) -> Result<(), NoMemor
     add_four(
         places,
         gep.into.at,
-        gep.of_type.at,
-        gep.base.of_type.at,
-        gep.base.operand.at,
+        gep.of_type.get().at,
+        gep.base.get().of_type.at,
+        gep.base.get().operand.at,
     )?;
     add_indices(places, gep.indices.as_slice())
 }
 
-fn add_inst(places: &mut Sequence<Place>, inst: &WrittenInst) -> Result<(), NoMemory>
+fn add_inst(places: &mut Sequence<Place>, inst: &Boxed<WrittenInst>) -> Result<(), NoMemory>
     ensures { OnOk result (places.new ≡ places.old ++ inst_places inst.now) }
 {
-    match inst {
+    match inst.get() {
         WrittenInst::Binary {
             into,
             op: _,
@@ -177,9 +177,16 @@ fn add_inst(places: &mut Sequence<Place>, inst: &WrittenInst) -> Result<(), NoMe
             condition,
             if_true,
             if_false,
-        } => add_select(places, into.at, *bit, condition.at, if_true, if_false),
+        } => add_select(
+            places,
+            into.at,
+            *bit,
+            condition.at,
+            if_true.get(),
+            if_false.get(),
+        ),
         WrittenInst::Freeze { into, value } => add_freeze(places, into.at, value),
-        WrittenInst::Access { access, align: _ } => add_access(places, access),
+        WrittenInst::Access { access, align: _ } => add_access(places, access.get()),
         WrittenInst::GetElementPtr(gep) => add_gep(places, gep),
     }
 }
@@ -204,7 +211,7 @@ fn add_parameters(
     Ok(())
 }
 
-fn add_insts(places: &mut Sequence<Place>, insts: &[WrittenInst]) -> Result<(), NoMemory>
+fn add_insts(places: &mut Sequence<Place>, insts: &[Boxed<WrittenInst>]) -> Result<(), NoMemory>
     ensures { OnOk result (places.new ≡ places.old ++ flat_map inst_places insts.now) }
 {
     for inst in insts {

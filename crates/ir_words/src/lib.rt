@@ -7,12 +7,14 @@
 //! follow one another.
 #![tactic(auto)]
 
+mod boxed;
 mod numbers;
 mod reasons;
 mod values;
 mod word;
 mod written;
 
+pub use boxed::Boxed;
 pub use numbers::{alignment, array_length, literal, some_digits};
 pub use reasons::{reason_at, type_reason_at, width_reason_at};
 pub use values::{is_pointer, is_void, truth_value, type_in, width_in, word_value};

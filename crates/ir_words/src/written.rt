@@ -1,5 +1,6 @@
 // The parts of a function as it is written: names are where the text has them, and each type, name, literal
 // and label has its position.
+use crate::boxed::Boxed;
 use ir_tree::{Cast, IrType, MemoryType, Name, Op, Predicate};
 use support::Sequence;
 use text_places::Place;
@@ -110,8 +111,8 @@ pub struct WrittenIndex {
 pub struct WrittenGep {
     pub into: WrittenName,
     pub flags: GepFlags,
-    pub of_type: WrittenObject,
-    pub base: WrittenTyped,
+    pub of_type: Boxed<WrittenObject>,
+    pub base: Boxed<WrittenTyped>,
     pub indices: Sequence<WrittenIndex>,
 }
 
@@ -159,8 +160,8 @@ pub enum WrittenInst {
         into: WrittenName,
         bit: Place,
         condition: WrittenOperand,
-        if_true: WrittenTyped,
-        if_false: WrittenTyped,
+        if_true: Boxed<WrittenTyped>,
+        if_false: Boxed<WrittenTyped>,
     },
     Freeze {
         into: WrittenName,
@@ -168,7 +169,7 @@ pub enum WrittenInst {
     },
     /// The alignment is the type's own where none is written.
     Access {
-        access: WrittenAccess,
+        access: Boxed<WrittenAccess>,
         align: u64,
     },
     GetElementPtr(WrittenGep),
@@ -197,13 +198,13 @@ pub enum WrittenLine {
     /// A phi, to which entries may be added.
     Entries(WrittenPhi),
     /// An instruction that an alignment may follow.
-    Access(WrittenAccess),
+    Access(Boxed<WrittenAccess>),
     /// A `getelementptr`, to which indices may be added.
     Indices(WrittenGep),
     /// A phi with attachments.
     Phi(WrittenPhi),
     /// An instruction that only attachments may follow.
-    Inst(WrittenInst),
+    Inst(Boxed<WrittenInst>),
 }
 
 /// A block so far: its label, if it has one, its phis and its other instructions. `is_new` says that
@@ -213,7 +214,7 @@ pub enum WrittenLine {
 pub struct WrittenLines {
     pub label: Option<WrittenName>,
     pub phis: Sequence<WrittenPhi>,
-    pub insts: Sequence<WrittenInst>,
+    pub insts: Sequence<Boxed<WrittenInst>>,
     pub is_new: bool,
     pub room: usize,
 }
@@ -266,7 +267,7 @@ pub enum WrittenTerminator {
 #[derive(Drop)]
 pub struct WrittenBody {
     pub phis: Sequence<WrittenPhi>,
-    pub insts: Sequence<WrittenInst>,
+    pub insts: Sequence<Boxed<WrittenInst>>,
     pub terminator: WrittenTerminator,
 }
 
