@@ -1,10 +1,10 @@
 -- A token is left at the offset where it begins, and so are those after it.
-use Rattle.ir_lexer.proofs.Common.{◌≡◌, ℕ, zero, suc, ◌-◌, ◌+◌, ◌<◌, ◌≤◌, false, List, [], ◌∷◌, length, take, drop, Option, Some, None, Result, Ok, Err, refl, sym, ap, subst, ◌∙◌, arith, length-drop, Place, place_at, Kind, Lexeme, longest_token, behind_blanks, Spot, with_front, with_token, tokens_of, Position, tokens_left, bytes_before, IsWithin, IsToken}
-use Rattle.std.specs.Prelude.{slice_get, IsOkAnd, IsSomeAnd}
+use Rattle.ir_lexer.proofs.Common.{◌≡◌, ℕ, zero, suc, ◌-◌, ◌+◌, ◌<◌, ◌≤◌, false, List, [], ◌∷◌, length, take, drop, Option, Some, None, Ok, refl, sym, ap, subst, ◌∙◌, arith, length-drop, Place, place_at, Kind, Lexeme, longest_token, behind_blanks, with_token, tokens_of, lexed, start_of, Position, tokens_left, bytes_before, IsWithin, IsToken}
+use Rattle.std.specs.Prelude.{slice_get, IsSomeAnd}
 use Rattle.std.proofs.lemmas.List.{drop-drop}
 use Rattle.ir_lexer.proofs.Behind.{drop-blanks, blanks-within}
 use Rattle.ir_lexer.proofs.Fuel.{found-bounds}
-use Rattle.ir_lexer.proofs.Next.{left-token, left-nil}
+use Rattle.ir_lexer.proofs.Next.{left-token, left-nil, left-start}
 use Rattle.ir_lexer.proofs.Taking.{front-ok}
 use Rattle.ir_lexer.specs.Position.{behind}
 
@@ -56,6 +56,7 @@ stays-within p t next within token =
 pub record AreLeft (p : Position) (count : ℕ) (t : Lexeme) (tokens : List Lexeme) : Type 0 where
   pub ahead : bytes_before p ≤ t.at
   pub inside : t.at ≤ length p.text
+  pub place : t.place ≡ place_at p.text t.at
   pub left : tokens_left (behind p t.at) ≡ Ok (drop count tokens)
 
 pub are-left : (count : ℕ) (p : Position) (tokens : List Lexeme) (t : Lexeme) → IsWithin p → tokens_left p ≡ Ok tokens → slice_get tokens count ≡ Some t → AreLeft p count t tokens
@@ -67,6 +68,7 @@ are-left zero p (u ∷ us) t within e is =
     record {
       ahead = omega (arith, same);
       inside = omega (arith, same);
+      place = ap (λ (v : Lexeme). v.place) one ∙ f.token.place ∙ ap (place_at p.text) (sym same);
       left = ap (λ (n : ℕ). tokens_left (behind p n)) same ∙ ap (λ (rest : List ℕ). tokens_left (record { text = p.text; rest = rest })) within ∙ e;
     }
 are-left (suc count) p [] t within e is = absurd (cc is)
@@ -78,16 +80,25 @@ are-left (suc count) p (u ∷ us) t within e is =
     record {
       ahead = omega (arith, on.1, later.ahead);
       inside = omega (arith, later.inside, ap length text);
+      place = later.place ∙ ap (λ (xs : List ℕ). place_at xs t.at) text;
       left = ap (λ (xs : List ℕ). tokens_left (record { text = xs; rest = drop t.at xs })) (sym text) ∙ later.left;
     }
 
--- a jump over some tokens leaves those after them
-pub jumps : (count at : ℕ) (p new : Position) (tokens : List Lexeme) → IsWithin p → (bytes_before p ≤ at → at ≤ length p.text → new ≡ behind p at)
-    → IsOkAnd (tokens_left p) (λ ts. IsSomeAnd (slice_get ts count) (λ t. t.at ≡ at)) → tokens_left p ≡ Ok tokens → tokens_left new ≡ Ok (drop count tokens)
-jumps count at p new tokens within jump some is = by (slice_get tokens count) refl (subst (λ (r : Result (List Lexeme) Spot). IsOkAnd r (λ ts. IsSomeAnd (slice_get ts count) (λ t. t.at ≡ at))) is some)
+-- the tokens of a text from an index on, where the one at it begins
+pub record AreAt (text : List ℕ) (tokens : List Lexeme) (index at line : ℕ) : Type 0 where
+  pub inside : at ≤ length text
+  pub line_is : line ≡ (place_at text at).line
+  pub left : tokens_left (record { text = text; rest = drop at text }) ≡ Ok (drop index tokens)
+
+pub are-at : (text : List ℕ) (tokens : List Lexeme) (index at line : ℕ) → lexed text ≡ Ok tokens → IsSomeAnd (slice_get tokens index) (λ t. at ≡ t.at) → IsSomeAnd (slice_get tokens index) (λ t. line ≡ t.place.line) → AreAt text tokens index at line
+are-at text tokens index at line is a l = by (slice_get tokens index) refl a l
   where
-    by : (o : Option Lexeme) → slice_get tokens count ≡ o → IsSomeAnd o (λ t. t.at ≡ at) → tokens_left new ≡ Ok (drop count tokens)
-    by None e h = absurd h
-    by (Some t) e h =
-        let a = are-left count p tokens t within is e in
-        ap tokens_left (jump (omega (arith, a.ahead, h)) (omega (arith, a.inside, h))) ∙ ap (λ (n : ℕ). tokens_left (behind p n)) (sym h) ∙ a.left
+    by : (o : Option Lexeme) → slice_get tokens index ≡ o → IsSomeAnd o (λ t. at ≡ t.at) → IsSomeAnd o (λ t. line ≡ t.place.line) → AreAt text tokens index at line
+    by None e a l = absurd a
+    by (Some t) e a l =
+        let whole = are-left index (start_of text) tokens t (drop-blanks text) (left-start text ∙ is) e in
+        record {
+          inside = omega (arith, whole.inside, a);
+          line_is = l ∙ ap (λ (p : Place). p.line) whole.place ∙ ap (λ (n : ℕ). (place_at text n).line) (sym a);
+          left = ap (λ (n : ℕ). tokens_left (record { text = text; rest = drop n text })) a ∙ whole.left;
+        }

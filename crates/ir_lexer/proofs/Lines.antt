@@ -102,7 +102,7 @@ plain-longest text found is =
 abbrev pub further : Place → ℕ → Place
 further place n = record { line = place.line; column = place.column + n }
 
-push : (before : List ℕ) (b : ℕ) → moved (place_behind before) b ≡ place_behind (before ++ b ∷ [])
+pub push : (before : List ℕ) (b : ℕ) → moved (place_behind before) b ≡ place_behind (before ++ b ∷ [])
 push before b = one_more (place_behind before) (b ∷ []) 0 (place_behind before) (moved (place_behind before) b) (omega arith) refl (λ start is. is ∙ ap place_behind (sym (append-nil start))) before refl
 
 no_feed : (b n : ℕ) → cond (eqb b 10) 1 0 + n ≡ 0 → (eqb b 10 ≡ false) × (n ≡ 0)

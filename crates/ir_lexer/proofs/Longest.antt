@@ -1,5 +1,5 @@
 -- The longest of the classes' longest prefixes is the longest token.
-use Rattle.ir_lexer.proofs.Common.{◌≡◌, ℕ, zero, suc, ◌-◌, ◌<◌, ◌≤◌, Bool, true, false, cond, ◌||◌, nat_lt, List, [], ◌∷◌, length, take, Option, Some, None, refl, sym, ap, subst, ◌∙◌, inl, inr, arith, IfSome, option_and_then, list_all, cases_Bool, cases_lt, lt-ltb, le-ltb, length-drop, Kind, is_digit, begins_word, is_name_byte, begins_name, is_hexadecimal_digit, is_float_kind, is_sign, is_inside_quotes, is_mark_byte, nothing, one, byte, behind, many, some, behind_one, maybe, ◌>>=◌, after_one, after_byte, after_some, shorter, after_digits, after_number, after_word, after_quoted, after_plain_name, after_name, after_named, after_tagged, after_caret, after_plain_label, after_quoted_label, after_label, after_exponent, after_float, after_hexadecimal, after_string, after_dots, after_mark, longer, front_token, longest, longest_token}
+use Rattle.ir_lexer.proofs.Common.{◌≡◌, ℕ, zero, suc, ◌-◌, ◌<◌, ◌≤◌, Bool, true, false, cond, ◌||◌, nat_lt, List, [], ◌∷◌, length, take, Option, Some, None, refl, sym, ap, subst, ◌∙◌, inl, inr, arith, IfSome, option_and_then, list_all, cases_Bool, cases_lt, lt-ltb, le-ltb, length-drop, Kind, is_digit, begins_word, is_name_byte, begins_name, is_hexadecimal_digit, is_float_kind, is_sign, is_inside_quotes, is_mark_byte, nothing, one, byte, behind, many, some, behind_one, maybe, after_one, after_byte, after_some, shorter, after_digits, after_number, after_word, after_quoted, after_plain_name, after_name, after_named, after_tagged, after_caret, after_plain_label, after_quoted_label, after_label, after_exponent, after_float, after_hexadecimal, after_string, after_dots, after_mark, longer, front_token, longest, longest_token}
 use Rattle.ir_lexer.specs.declared.token.Kind.TheVariants as kind
 use Rattle.ir_lexer.specs.Spelling.{is_digits, is_number, is_word, quoted, is_quoted, is_plain_name, is_name, is_word_or_number, is_label, is_exponent, is_exponent_or_nothing, is_float, is_hexadecimal, is_string, is_mark, class_of}
 use Rattle.ir_lexer.proofs.Fronts.{IsLongest, nothing-longest, one-longest, many-longest, some-longest, maybe-longest, either-longest, optional-longest, same-longest}

@@ -7,3 +7,4 @@ pub mod Answer
 pub mod Scan
 pub mod Position
 pub mod Marks
+pub mod Part

@@ -1,54 +1,80 @@
-ghost use Rattle.std.specs.Prelude.{◌≡◌, ◌+◌, ◌<◌, ◌≤◌, ◌^◌, ◌++◌, ℕ, List, length, take, Option, Some, None, IfSome};
-ghost use Rattle.text_places.specs.Place.{place_behind};
+ghost use Rattle.std.specs.Prelude.{◌≡◌, ◌+◌, ◌-◌, ◌<◌, ◌≤◌, ◌^◌, ◌++◌, ℕ, List, length, take, drop, count_by, Option, Some, None, IfSome};
+ghost use Rattle.text_places.specs.Place.{place_behind, place_at, is_line_feed};
 ghost use Rattle.ir_lexer.specs.Tokens.{longest_token};
-ghost use Rattle.ir_lexer.specs.Position.{start_of, bytes_before, behind, IsWithin, Reads};
+ghost use Rattle.ir_lexer.specs.Position.{start_of, bytes_before, IsWithin, Reads};
 ghost use Rattle.ir_lexer.specs.Scan.{name_run};
 
-use crate::blanks::blanks_len;
+use crate::blanks::blanks;
 use crate::lexing::LexFault;
-use crate::parts::name_run;
-use crate::scan::{first_token, plain_token};
+use crate::scan::{first_token, plain_token, run_at_front};
 use crate::token::{Kind, Token};
 use std::marker::Model;
 use text_places::Place;
 
-// The leading run of name bytes, which is scanned only where it isn't known, as 0.
-fn run_at_front(text: &[u8], known: usize) -> usize
-    requires { 0 < known → known ≡ name_run text.now }
-    ensures { result ≡ name_run text.now }
+// The line feeds among some bytes.
+fn line_feeds(bytes: &[u8]) -> u64
+    ensures { result ≡ count_by is_line_feed bytes.now }
 {
-    if known == 0 { name_run(text) } else { known }
+    bytes.iter().filter(|b| **b == b'\n').count() as u64
 }
 
-// The longest token at the start of a text: its class, its length, and the position behind it.
+// The column of what follows some bytes, which begin a text.
+fn column_behind(bytes: &[u8]) -> u64
+    ensures { result ≡ (place_behind bytes.now).column }
+{
+    let mut start = bytes.len();
+    while 0 < start && bytes[start - 1] != b'\n' {
+        start -= 1;
+    }
+    (bytes.len() - start) as u64 + 1
+}
+
+// The longest token at the start of a text: its class, its length, the position behind it, and what is
+// known of the run of name bytes there.
 #[derive(Clone, Copy)]
 struct Front {
     kind: Kind,
     len: usize,
     after: Place,
+    run: usize,
 }
 
 // The longest token at the start of a text, which begins at this position. The run is that of the
-// leading name bytes. Only a token that may have quotes is looked through for line feeds.
-fn front_of(text: &[u8], run: usize, place: Place) -> Option<Front>
-    requires run { run ≡ name_run text.now }
+// leading name bytes, or 0 where it isn't known. Only a token that may have quotes is looked through
+// for line feeds.
+fn front_of(text: &[u8], known: usize, place: Place) -> Option<Front>
+    requires known { 0 < known → known ≡ name_run text.now }
     requires line { place.line + length text.now < 2 ^ 64 }
     requires column { place.column + length text.now < 2 ^ 64 }
     ensures found { IfSome result (λ f. longest_token text.now ≡ Some (f.kind, f.len)) }
     ensures none { result ≡ None → longest_token text.now ≡ None }
     ensures bounds { IfSome result (λ f. (0 < f.len) × (f.len ≤ length text.now)) }
     ensures after { IfSome result (λ f. (before : List ℕ) → place ≡ place_behind before → f.after ≡ place_behind (before ++ take f.len text.now)) }
+    ensures run { IfSome result (λ f. 0 < f.run → f.run ≡ name_run text.now - f.len) }
 {
-    if let Some((kind, len)) = plain_token(text, run) {
+    if let Some((kind, len)) = plain_token(text, known) {
         let after = Place {
             line: place.line,
             column: place.column + len as u64,
         };
-        return Some(Front { kind, len, after });
+        let run = 0;
+        return Some(Front {
+            kind,
+            len,
+            after,
+            run,
+        });
     }
+    let run = run_at_front(text, known);
     let (kind, len) = first_token(text, run)?;
     let after = place.behind(text.split_at(len).0);
-    Some(Front { kind, len, after })
+    let run = run.saturating_sub(len);
+    Some(Front {
+        kind,
+        len,
+        after,
+        run,
+    })
 }
 
 /// A position in a text, before a token or at the end. Contracts see the text and what is left of
@@ -77,11 +103,11 @@ impl<'a> Cursor<'a> {
     pub fn new(text: &'a [u8]) -> Cursor<'a>
         ensures { result ≡ start_of text.now }
     {
-        let (blanks, rest) = text.split_at(blanks_len(text));
+        let passed = blanks(text, Place::start());
         Cursor {
             text,
-            rest,
-            place: Place::start().behind(blanks),
+            rest: text.split_at(passed.len).1,
+            place: passed.place,
             run: 0,
         }
     }
@@ -95,20 +121,19 @@ impl<'a> Cursor<'a> {
         if self.rest.is_empty() {
             return Ok(None);
         }
-        let at = self.text.len() - self.rest.len();
-        let run = run_at_front(self.rest, self.run);
-        let Some(front) = front_of(self.rest, run, self.place) else {
+        let at = self.offset();
+        let Some(front) = front_of(self.rest, self.run, self.place) else {
             return Err(LexFault::NoToken {
                 at,
                 place: self.place,
             });
         };
         let (bytes, after) = self.rest.split_at(front.len);
-        let (blanks, rest) = after.split_at(blanks_len(after));
         let token = Token::new(front.kind, bytes, at, self.place);
-        self.place = front.after.behind(blanks);
-        self.run = run.saturating_sub(front.len);
-        self.rest = rest;
+        let passed = blanks(after, front.after);
+        self.rest = after.split_at(passed.len).1;
+        self.place = passed.place;
+        self.run = front.run;
         Ok(Some(token))
     }
 
@@ -124,19 +149,60 @@ impl<'a> Cursor<'a> {
         }
     }
 
-    /// Moves on to an offset of the text. Where it is past that, or the text ends before, it does not
-    /// move.
-    pub fn jump(&mut self, at: usize)
-        ensures jumps { bytes_before self.old ≤ at → at ≤ length self.old.text → self.new ≡ behind self.old at }
-        ensures within { IsWithin self.old }
+    /// Before the token at this offset of a text, which is on this line.
+    pub fn at(text: &'a [u8], at: usize, line: u64) -> Cursor<'a>
+        requires within { at ≤ length text.now }
+        requires line { line ≡ (place_at text.now at).line }
+        ensures { result ≡ record { text = text.now; rest = drop at text.now } }
     {
-        let done = self.text.len() - self.rest.len();
-        if at < done || self.text.len() < at {
-            return;
+        let (front, rest) = text.split_at(at);
+        let column = column_behind(front);
+        Cursor {
+            text,
+            rest,
+            place: Place { line, column },
+            run: 0,
         }
-        let (front, rest) = self.rest.split_at(at - done);
-        self.place = self.place.behind(front);
-        self.run = 0;
-        self.rest = rest;
+    }
+
+    /// How many bytes are left up to the first line feed from a number of bytes on, with the line feed.
+    pub fn line_end(&self, count: usize) -> usize
+        ensures { result ≤ length self.now.rest }
+    {
+        let (skipped, others) = self.rest.split_at(count.min(self.rest.len()));
+        let len = others.iter().take_while(|b| **b != b'\n').count();
+        self.rest.len().min((skipped.len() + len).saturating_add(1))
+    }
+
+    /// After this many bytes more, and the blanks there. It reads no token.
+    pub fn skip(&self, len: usize) -> Cursor<'a>
+        requires { len ≤ length self.now.rest }
+        ensures { result.text ≡ self.now.text }
+    {
+        let (skipped, rest) = self.rest.split_at(len);
+        let line = self.place.line + line_feeds(skipped);
+        let column = column_behind(self.text.split_at(self.offset() + len).0);
+        let passed = blanks(rest, Place { line, column });
+        Cursor {
+            text: self.text,
+            rest: rest.split_at(passed.len).1,
+            place: passed.place,
+            run: 0,
+        }
+    }
+
+    /// The line where it is.
+    pub fn line(&self) -> u64
+        ensures { result ≡ (place_at self.now.text (bytes_before self.now)).line }
+    {
+        self.place.line
+    }
+
+    /// The number of bytes of the text before it.
+    pub fn offset(&self) -> usize
+        ensures value { result ≡ bytes_before self.now }
+        ensures within { IsWithin self.now }
+    {
+        self.text.len() - self.rest.len()
     }
 }

@@ -1,4 +1,4 @@
-ghost use Rattle.std.specs.Prelude.{◌≡◌, ◌≤◌, List, length, take, drop, Ok, IfOk, OnOk, IsOkAnd, IsSomeAnd, slice_get};
+ghost use Rattle.std.specs.Prelude.{◌≡◌, ◌<◌, ◌≤◌, List, length, take, drop, Ok, IfOk, OnOk, IsOkAnd};
 ghost use Rattle.ir_lexer.specs.Lexeme.{Lexeme};
 ghost use Rattle.ir_lexer.specs.Tokens.{lexed};
 ghost use Rattle.ir_lexer.specs.Answer.{IsNext};
@@ -6,6 +6,7 @@ ghost use Rattle.ir_lexer.specs.Answer.{IsNext};
 use crate::cursor::Cursor;
 use crate::lexing::LexFault;
 use crate::token::Token;
+use crate::tokens::Tokens;
 use std::alloc::Global;
 use std::marker::Model;
 use support::{NoMemory, Sequence};
@@ -87,12 +88,14 @@ impl<'a> Lexer<'a> {
         }
     }
 
-    /// Skips the next `count` tokens, where the next one begins at offset `at` of the text. That one
-    /// must be left. It reads none of them.
-    pub fn jump(&mut self, count: usize, at: usize)
-        requires { IsOkAnd self.old (λ tokens. IsSomeAnd (slice_get tokens count) (λ t. t.at ≡ at)) }
-        ensures { (tokens : List Lexeme) → self.old ≡ Ok tokens → self.new ≡ Ok (drop count tokens) }
+    /// A lexer before the token at an index, counted from 0, of the tokens of a text. It reads no token.
+    pub fn at(text: &'a [u8], tokens: &Tokens<'_>, index: usize) -> Lexer<'a>
+        requires tokens { lexed text.now ≡ Ok tokens.now }
+        requires within { index < length tokens.now }
+        ensures { result ≡ Ok (drop index tokens.now) }
     {
-        self.cursor.jump(at);
+        Lexer {
+            cursor: Cursor::at(text, tokens.at(index), tokens.line(index)),
+        }
     }
 }

@@ -4,7 +4,7 @@ ghost use Rattle.ir_lexer.specs.Answer.{Gives};
 ghost use Rattle.ir_lexer.specs.declared.lexing.LexFault.TheVariants.{NoMemory};
 
 use crate::cursor::Cursor;
-use crate::mark::Mark;
+use crate::part::part_until;
 use crate::tokens::Tokens;
 use std::alloc::{AllocError, AllocFailed, Global};
 use text_places::Place;
@@ -50,10 +50,6 @@ pub fn lex<'a>(alloc: Global, text: &'a [u8]) -> Result<Tokens<'a>, LexFault>
     if text.len() > u32::MAX as usize {
         return Err(LexFault::NoMemory);
     }
-    let mut marks = Vec::new(alloc);
-    let mut cursor = Cursor::new(text);
-    while let Some(token) = cursor.next()? {
-        marks.push(Mark::of(&token))?;
-    }
-    Ok(Tokens::new(text, marks))
+    let part = part_until(alloc, Cursor::new(text), text.len())?;
+    Ok(Tokens::new(text, part.marks))
 }

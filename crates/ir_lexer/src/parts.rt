@@ -28,7 +28,11 @@ pub fn name_run(text: &[u8]) -> usize
     ensures value { result ≡ name_run text.now }
     ensures within { result ≤ length text.now }
 {
-    text.iter().take_while(|b| bytes::is_name_byte(**b)).count()
+    let mut run = 0;
+    while run < text.len() && bytes::is_name_byte(text[run]) {
+        run += 1;
+    }
+    run
 }
 
 /// After the leading name bytes.

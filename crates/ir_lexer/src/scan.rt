@@ -284,6 +284,14 @@ fn number_token(text: &[u8], run: usize) -> Option<(Kind, usize)>
     longer(found, Kind::Hexadecimal, text, after_hexadecimal(text))
 }
 
+/// The leading run of name bytes, which is scanned only where it isn't known, as 0.
+pub fn run_at_front(text: &[u8], known: usize) -> usize
+    requires { 0 < known → known ≡ scan.name_run text.now }
+    ensures { result ≡ scan.name_run text.now }
+{
+    if known == 0 { name_run(text) } else { known }
+}
+
 // The token of a run of name bytes that begins neither with a digit nor with a mark, before a rest.
 fn word_or_label(run: usize, rest: &[u8]) -> (Kind, usize)
     requires { run + length rest.now < 2 ^ 64 }
@@ -309,9 +317,10 @@ fn plain_local(rest: &[u8]) -> Option<(Kind, usize)>
 }
 
 /// The token at the start, where its first bytes tell its class and no quotes begin there: a mark, a
-/// local name, a word or a label. It has no line feed. The run is that of the leading name bytes.
-pub fn plain_token(text: &[u8], run: usize) -> Option<(Kind, usize)>
-    requires { run ≡ scan.name_run text.now }
+/// local name, a word or a label. It has no line feed. The leading run of name bytes is scanned only
+/// where it isn't known, as 0.
+pub fn plain_token(text: &[u8], known: usize) -> Option<(Kind, usize)>
+    requires { 0 < known → known ≡ scan.name_run text.now }
     ensures token { IfSome result (λ found. scan.front_token text.now ≡ Some found) }
     ensures line { IfSome result (λ found. count_by is_line_feed (take found.1 text.now) ≡ 0) }
 {
@@ -324,6 +333,7 @@ pub fn plain_token(text: &[u8], run: usize) -> Option<(Kind, usize)>
     } else if first == b'%' {
         plain_local(rest)
     } else if bytes::begins_plain_word(first) {
+        let run = run_at_front(text, known);
         Some(word_or_label(run, text.split_at(run).1))
     } else {
         None

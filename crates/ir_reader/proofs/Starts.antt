@@ -3,11 +3,10 @@ use Rattle.ir_reader.proofs.Common.{◌≡◌, ℕ, zero, suc, ◌+◌, ◌-◌,
 use Rattle.std.proofs.Common.{Result, Ok, Err, take, ◌^◌}
 use Rattle.std.proofs.lemmas.List.{map-append, take-append-drop, take_more}
 use Rattle.std.proofs.lemmas.List.Elements.{All-push, All-append, All-take, All-drop, All-get_or}
-use Rattle.std.specs.Prelude.{IsSomeAnd}
 use Rattle.ir_items.specs.Items.{define}
 use Rattle.ir_reader.specs.declared.beside.Start.{Start}
 use Rattle.ir_reader.specs.Beside.{defines_in, IsStart, AreStarts, MayRead, Reads}
-use Rattle.ir_reader.proofs.Entries.{cut-ascends, drop-long}
+use Rattle.ir_reader.proofs.Entries.{cut-ascends, ascend-end, drop-long}
 
 -- ---- the entries of some defines and of others
 
@@ -47,23 +46,6 @@ enough-left tokens s lexer is S =
     let long = drop-long s.define.first tokens in
     subst (λ (r : Result (List Lexeme) Spot). IsOkAnd r (λ ts. s.define.last + 1 ≤ s.define.first + length ts)) (sym (is ∙ S.left)) (omega (arith, S.within, long))
 
-get-drop : (ts : List Lexeme) (done first : ℕ) → done ≤ first → slice_get (drop done ts) (first - done) ≡ slice_get ts first
-get-drop ts zero first h = ap (λ (k : ℕ). slice_get ts k) {x = first - 0} {y = first} (omega arith)
-get-drop [] (suc done) first h = refl
-get-drop (t ∷ ts) (suc done) zero h = absurd (omega arith)
-get-drop (t ∷ ts) (suc done) (suc first) h = ap (λ (k : ℕ). slice_get (drop done ts) k) {x = suc first - suc done} {y = first - done} (omega arith) ∙ get-drop ts done first (omega (arith, h))
-
-there : (o : Option Lexeme) (at : ℕ) → IsSomeAnd o (λ t. at ≡ t.at) → IsSomeAnd o (λ t. t.at ≡ at)
-there None at h = absurd h
-there (Some t) at h = sym h
-
--- the token to which the lexer jumps
-pub jump-there : (tokens : List Lexeme) (done first at : ℕ) (lexer : Result (List Lexeme) Spot) → done ≤ first → lexer ≡ Ok (drop done tokens) → IsSomeAnd (slice_get tokens first) (λ t. at ≡ t.at)
-    → IsOkAnd lexer (λ ts. IsSomeAnd (slice_get ts (first - done)) (λ t. t.at ≡ at))
-jump-there tokens done first at lexer h e some =
-    subst (λ (r : Result (List Lexeme) Spot). IsOkAnd r (λ ts. IsSomeAnd (slice_get ts (first - done)) (λ t. t.at ≡ at))) (sym e)
-    (subst (λ (o : Option Lexeme). IsSomeAnd o (λ t. t.at ≡ at)) (sym (get-drop tokens done first h)) (there (slice_get tokens first) at some))
-
 -- ---- the defines of which the lexers are found
 
 abbrev pub BeginsWithin : ℕ → Define → Type 0
@@ -83,56 +65,47 @@ cut-begins tokens _ _ (define {first} {place} {end} {name} {defines} cut item na
     All-push (BeginsWithin end) defines (record { name = name; first = first; last = end - 1 }) (begins-later first end defines (omega arith) (cut-begins tokens first defines cut)) (omega arith)
 
 -- the defines that are left follow, and these starts are of the others
-pub record Started (tokens : List Lexeme) (all left : List Define) (done : ℕ) (lexer : Result (List Lexeme) Spot) (starts : List Start) : Type 0 where
-  pub passed : lexer ≡ Ok (drop done tokens)
-  pub ascend : Ascend done (length tokens) left
+pub record Started (tokens : List Lexeme) (all left : List Define) (starts : List Start) : Type 0 where
+  pub from : ℕ
+  pub ascend : Ascend from (length tokens) left
   pub begin : All (BeginsWithin (length tokens)) left
   pub whole : defines_in starts ++ left ≡ all
   pub each : All (IsStart tokens) starts
 
-pub started-first : (text : List ℕ) (tokens : List Lexeme) (all left : List Define) (lexer : Result (List Lexeme) Spot) (starts : List Start) → left ≡ all → starts ≡ [] → lexer ≡ Ok tokens → AreDefines text tokens all → Started tokens all left 0 lexer starts
-started-first text tokens all left lexer starts l s e are =
-    let start : Started tokens all all 0 lexer [] = record { passed = e; ascend = cut-ascends tokens (length tokens) all are.cut; begin = cut-begins tokens (length tokens) all are.cut; whole = refl; each = All-nil (IsStart tokens) } in
-    subst (λ (ds : List Define). Started tokens all ds 0 lexer starts) (sym l) (subst (λ (ss : List Start). Started tokens all all 0 lexer ss) (sym s) start)
+pub started-first : (text : List ℕ) (tokens : List Lexeme) (all left : List Define) (starts : List Start) → left ≡ all → starts ≡ [] → AreDefines text tokens all → Started tokens all left starts
+started-first text tokens all left starts l s are =
+    let start : Started tokens all all [] = record { from = 0; ascend = cut-ascends tokens (length tokens) all are.cut; begin = cut-begins tokens (length tokens) all are.cut; whole = refl; each = All-nil (IsStart tokens) } in
+    subst (λ (ds : List Define). Started tokens all ds starts) (sym l) (subst (λ (ss : List Start). Started tokens all all ss) (sym s) start)
 
 -- where the next define begins
-pub record Next (tokens : List Lexeme) (done : ℕ) (d : Define) : Type 0 where
-  pub behind : done ≤ d.first
+pub record Next (tokens : List Lexeme) (d : Define) : Type 0 where
   pub spans : d.first ≤ d.last + 1
   pub within : d.last + 1 ≤ length tokens
   pub begins : d.first < length tokens
 
-ascend-end : (from end : ℕ) (defines : List Define) → Ascend from end defines → from ≤ end
-ascend-end from end [] A = A
-ascend-end from end (d ∷ defines) (a, b, A) = let rest = ascend-end (d.last + 1) end defines A in omega (arith, a, b, rest)
-
-ascend-sooner : (from sooner end : ℕ) (defines : List Define) → sooner ≤ from → Ascend from end defines → Ascend sooner end defines
-ascend-sooner from sooner end [] h A = omega (arith, h, A)
-ascend-sooner from sooner end (d ∷ defines) h (a, b, A) = (omega (arith, h, a), b, A)
-
-pub started-next : (tokens : List Lexeme) (all left more : List Define) (done : ℕ) (d : Define) (lexer : Result (List Lexeme) Spot) (starts : List Start) → left ≡ d ∷ more → Started tokens all left done lexer starts → Next tokens done d
-started-next tokens all left more done d lexer starts e S =
-    let T = subst (λ (ds : List Define). Started tokens all ds done lexer starts) e S in
+pub started-next : (tokens : List Lexeme) (all left more : List Define) (d : Define) (starts : List Start) → left ≡ d ∷ more → Started tokens all left starts → Next tokens d
+started-next tokens all left more d starts e S =
+    let T = subst (λ (ds : List Define). Started tokens all ds starts) e S in
     let rest = ascend-end (d.last + 1) (length tokens) more T.ascend.2 in
-    record { behind = T.ascend.0; spans = T.ascend.1; within = rest; begins = T.begin 0 d (omega arith) }
+    record { spans = T.ascend.1; within = rest; begins = T.begin 0 d (omega arith) }
 
-pub started-more : (tokens : List Lexeme) (all left more : List Define) (done : ℕ) (d : Define) (old new copy : Result (List Lexeme) Spot) (starts pushed : List Start) → left ≡ d ∷ more → pushed ≡ starts ++ record { define = d; lexer = copy } ∷ []
-    → length tokens < 2 ^ 64 → copy ≡ new → new ≡ Ok (drop d.first tokens) → Started tokens all left done old starts → Started tokens all more d.first new pushed
-started-more tokens all left more done d old new copy starts pushed e p small c n S =
-    let T = subst (λ (ds : List Define). Started tokens all ds done old starts) e S in
-    let next = started-next tokens all left more done d old starts e S in
-    let s : Start = record { define = d; lexer = copy } in
-    let is : IsStart tokens s = record { left = c ∙ n; spans = next.spans; within = next.within; small = small } in
-    let so : Started tokens all more d.first new (starts ++ s ∷ []) = record {
-      passed = n;
-      ascend = ascend-sooner (d.last + 1) d.first (length tokens) more next.spans T.ascend.2;
+pub started-more : (tokens : List Lexeme) (all left more : List Define) (d : Define) (lexer : Result (List Lexeme) Spot) (starts pushed : List Start) → left ≡ d ∷ more → pushed ≡ starts ++ record { define = d; lexer = lexer } ∷ []
+    → length tokens < 2 ^ 64 → lexer ≡ Ok (drop d.first tokens) → Started tokens all left starts → Started tokens all more pushed
+started-more tokens all left more d lexer starts pushed e p small n S =
+    let T = subst (λ (ds : List Define). Started tokens all ds starts) e S in
+    let next = started-next tokens all left more d starts e S in
+    let s : Start = record { define = d; lexer = lexer } in
+    let is : IsStart tokens s = record { left = n; spans = next.spans; within = next.within; small = small } in
+    let so : Started tokens all more (starts ++ s ∷ []) = record {
+      from = d.last + 1;
+      ascend = T.ascend.2;
       begin = λ k x lt. T.begin (suc k) x (omega (arith, lt));
       whole = ap (λ (ds : List Define). ds ++ more) (map-append (λ (u : Start). u.define) starts (s ∷ [])) ∙ append_assoc (defines_in starts) (d ∷ []) more ∙ T.whole;
       each = All-push (IsStart tokens) starts s T.each is;
     } in
-    subst (λ (ss : List Start). Started tokens all more d.first new ss) (sym p) so
+    subst (λ (ss : List Start). Started tokens all more ss) (sym p) so
 
-pub started-all : (text : List ℕ) (tokens : List Lexeme) (all left : List Define) (done : ℕ) (lexer : Result (List Lexeme) Spot) (starts : List Start) → left ≡ [] → AreDefines text tokens all → Started tokens all left done lexer starts → AreStarts text tokens starts
-started-all text tokens all left done lexer starts e are S =
-    let T = subst (λ (ds : List Define). Started tokens all ds done lexer starts) e S in
+pub started-all : (text : List ℕ) (tokens : List Lexeme) (all left : List Define) (starts : List Start) → left ≡ [] → AreDefines text tokens all → Started tokens all left starts → AreStarts text tokens starts
+started-all text tokens all left starts e are S =
+    let T = subst (λ (ds : List Define). Started tokens all ds starts) e S in
     record { defines = subst (λ (ds : List Define). AreDefines text tokens ds) (sym (sym (append-nil (defines_in starts)) ∙ T.whole)) are; each = T.each }

@@ -1,8 +1,9 @@
-// Reading a module, its functions beside each other.
-ghost use Rattle.std.specs.Prelude.{◌<◌, ◌≤◌, List, length, map, IfOk, IfErr};
+// Reading a module, its tokens and then its functions beside each other.
+ghost use Rattle.std.specs.Prelude.{◌≡◌, ◌<◌, ◌≤◌, List, length, map, Ok, IfOk, IfErr};
 ghost use Rattle.std.specs.List.{AllByRecursion, IsDistinct};
 ghost use Rattle.std.specs.Thread.{IsSync};
 ghost use Rattle.ir_lexer.specs.Lexeme.{Lexeme};
+ghost use Rattle.ir_lexer.specs.Tokens.{lexed};
 ghost use Rattle.ir_reader.specs.Answer.{AreDefines};
 ghost use Rattle.ir_reader.specs.Beside.{IsStart, AreStarts, AreHalves, MayRead, Reads};
 ghost use Rattle.ir_reader.specs.Module.{IsModule, IsFault, IsEntry};
@@ -12,7 +13,7 @@ ghost use Rattle.ir_tree.specs.Names.{same_name};
 use crate::fault::ModuleFault;
 use crate::reading::{defines_of, entry, tokens};
 use ir_items::Define;
-use ir_lexer::{Lexer, Tokens};
+use ir_lexer::{Lexer, Tokens, lex_beside};
 use ir_tree::{Entry, Module, copy_name};
 use std::alloc::Global;
 use std::thread::{Threads, join};
@@ -25,8 +26,8 @@ pub struct Start<'a> {
     pub lexer: Lexer<'a>,
 }
 
-/// The same module or fault as [`read`](crate::read) returns, by this many workers: once the text is
-/// cut into its defines, they are read beside each other. Where a thread can't be started its work is
+/// The same module or fault as [`read`](crate::read) returns, by this many workers: they find the
+/// tokens of the text beside each other, and once it is cut into its defines, read these. Where a thread can't be started its work is
 /// done by the caller.
 ///
 /// # Errors
@@ -42,7 +43,8 @@ pub fn read_beside<R: Threads + Sync>(
     ensures judgeable { IfOk result (λ m. AllByRecursion IsJudgeableEntry m.entries) }
     ensures different { IfOk result (λ m. IsDistinct same_name (map (λ e. e.name) m.entries)) }
 {
-    let starts = starts(alloc, text)?;
+    let tokens = tokens(lex_beside(rt, alloc, text, workers))?;
+    let starts = starts(alloc, text, tokens)?;
     let workers = workers.min(starts.len() as u64);
     let entries = entries_beside(rt, alloc, starts, workers)?;
     Ok(Module {
@@ -51,11 +53,15 @@ pub fn read_beside<R: Threads + Sync>(
 }
 
 // The defines of a text, each with a lexer before its first token. The table of all tokens is not kept.
-fn starts<'a>(alloc: Global, text: &'a [u8]) -> Result<Vec<Start<'a>>, ModuleFault>
+fn starts<'a>(
+    alloc: Global,
+    text: &'a [u8],
+    tokens: Tokens<'a>,
+) -> Result<Vec<Start<'a>>, ModuleFault>
+    requires { lexed text.now ≡ Ok tokens }
     ensures starts { IfOk result (λ starts. (tokens : List Lexeme) × AreStarts text.now tokens starts.items) }
     ensures fault { IfErr result (IsFault text.now) }
 {
-    let tokens = tokens(alloc, text)?;
     let defines = defines_of(alloc, text, &tokens)?;
     let starts = starts_of(alloc, text, &tokens, defines)?;
     Ok(starts)
@@ -71,16 +77,9 @@ fn starts_of<'a>(
     ensures { IfOk result (λ starts. AreStarts text.now tokens.now starts.items) }
 {
     let mut starts = Vec::with_capacity(alloc, defines.len())?;
-    let mut lexer = Lexer::new(text);
-    let mut done = 0;
     for define in defines.into_vec() {
-        let first = define.first;
-        lexer.jump(first - done, tokens.at(first));
-        starts.push(Start {
-            define,
-            lexer: lexer.again(),
-        })?;
-        done = first;
+        let lexer = Lexer::at(text, tokens, define.first);
+        starts.push(Start { define, lexer })?;
     }
     Ok(starts)
 }

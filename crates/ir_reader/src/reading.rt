@@ -1,9 +1,10 @@
 // Reading a module.
-ghost use Rattle.std.specs.Prelude.{◌≡◌, ◌+◌, ◌<◌, ◌≤◌, ◌^◌, List, drop, length, map, slice_get, Ok, IfOk, IfErr, IsOkAnd, OnOk};
+ghost use Rattle.std.specs.Prelude.{◌≡◌, ◌+◌, ◌<◌, ◌≤◌, ◌^◌, ℕ, List, drop, length, map, slice_get, Ok, IfOk, IfErr, IsOkAnd, OnOk};
 ghost use Rattle.std.specs.List.{AllByRecursion, IsDistinct};
 ghost use Rattle.text_places.specs.Place.{place_at};
 ghost use Rattle.ir_lexer.specs.Lexeme.{Lexeme};
 ghost use Rattle.ir_lexer.specs.Tokens.{lexed};
+ghost use Rattle.ir_lexer.specs.Answer.{Gives};
 ghost use Rattle.ir_reader.specs.Answer.{AreDefines};
 ghost use Rattle.ir_reader.specs.Functions.{IsFunction};
 ghost use Rattle.ir_reader.specs.Module as spec;
@@ -39,12 +40,12 @@ pub fn read(alloc: Global, text: &[u8]) -> Result<Module, ModuleFault>
     Ok(Module { entries })
 }
 
-/// The tokens of a text.
-pub fn tokens<'a>(alloc: Global, text: &'a [u8]) -> Result<Tokens<'a>, ModuleFault>
-    ensures tokens { IfOk result (λ tokens. lexed text.now ≡ Ok tokens) }
-    ensures fault { IfErr result (IsFault text.now) }
+/// The tokens of a text, or its fault, as the lexer returns them.
+pub fn tokens<'a>(found: Result<Tokens<'a>, LexFault>) -> Result<Tokens<'a>, ModuleFault>
+    ensures tokens { IfOk result (λ tokens. (text : List ℕ) → Gives found.entry (lexed text) → lexed text ≡ Ok tokens) }
+    ensures fault { IfErr result (λ fault. (text : List ℕ) → Gives found.entry (lexed text) → IsFault text fault) }
 {
-    match lex(alloc, text) {
+    match found {
         Ok(tokens) => Ok(tokens),
         Err(LexFault::NoToken { at: _, place }) => Err(ModuleFault::NoToken(place)),
         Err(LexFault::NoMemory) => Err(ModuleFault::NoMemory),
@@ -80,7 +81,7 @@ fn defines(alloc: Global, text: &[u8]) -> Result<Sequence<Define>, ModuleFault>
     ensures defines { IfOk result (λ defines. (tokens : List Lexeme) × AreDefines text.now tokens defines) }
     ensures fault { IfErr result (IsFault text.now) }
 {
-    let tokens = tokens(alloc, text)?;
+    let tokens = tokens(lex(alloc, text))?;
     defines_of(alloc, text, &tokens)
 }
 

@@ -2,7 +2,7 @@
 
 use crate::expecting::expect;
 use crate::token_lists::tokens_of;
-use ir_lexer::{LexFault, Lexer, Token, Tokens, lex};
+use ir_lexer::{LexFault, Lexer, Token, Tokens, lex, lex_beside};
 use std::alloc::Global;
 use std::test::Fail;
 use text_places::Place;
@@ -157,6 +157,24 @@ fn parts_of_the_tokens(rt: HostRuntime) -> Result<(), Fail> {
             && is_part(back.as_slice(), tokens.as_slice(), 5),
         "parts of the tokens",
     )
+}
+
+/// Several workers find what one finds, also where a string or a comment goes on after a line feed.
+#[test]
+fn tokens_by_several_workers(rt: HostRuntime) -> Result<(), Fail> {
+    let alloc = rt.alloc();
+    let text = b"a %b\n@c ; d \"\n \"e\nf\n\n\" ( g:\n\n5\n";
+    let one = lex(alloc, text)?;
+    assert_eq!(rt; one.len(), 7);
+    for workers in 0..9 {
+        let several = lex_beside(&rt, alloc, text, workers)?;
+        assert_eq!(rt; several.len(), one.len());
+        for at in 0..one.len() {
+            assert_eq!(rt; several.at(at), one.at(at));
+            assert_eq!(rt; several.line(at), one.line(at));
+        }
+    }
+    Ok(())
 }
 
 /// Whether the tokens are those of a list from an index on.

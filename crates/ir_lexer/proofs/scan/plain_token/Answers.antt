@@ -11,7 +11,7 @@ returns-then-is_lone_mark-clause-token c = (mark-first c.args.text.now (sym c.is
 
 pub returns-then-begins_plain_word-clause-token : goal.returns-then-begins_plain_word-clause-token
 returns-then-begins_plain_word-clause-token c =
-    let run : c.args.run ≡ name_run c.args.text.now = c.requires in
+    let run : c.run_at_front-run.result ≡ name_run c.args.text.now = c.run_at_front-run.ensures in
     let rest : c.split_at.result.1.now ≡ behind is_name_byte c.args.text.now = c.split_at.ensures.back ∙ ap (λ (n : ℕ). drop n c.args.text.now) run ∙ drop-run is_name_byte c.args.text.now in
     let is : c.word_or_label.result ≡ word_or_label (name_run c.args.text.now) (behind is_name_byte c.args.text.now) =
     c.word_or_label.ensures ∙ ap (λ (n : ℕ). word_or_label n c.split_at.result.1.now) run ∙ ap (word_or_label (name_run c.args.text.now)) rest in
@@ -19,7 +19,7 @@ returns-then-begins_plain_word-clause-token c =
 
 pub returns-then-begins_plain_word-clause-line : goal.returns-then-begins_plain_word-clause-line
 returns-then-begins_plain_word-clause-line c =
-    let run : c.args.run ≡ name_run c.args.text.now = c.requires in
+    let run : c.run_at_front-run.result ≡ name_run c.args.text.now = c.run_at_front-run.ensures in
     let rest : c.split_at.result.1.now ≡ behind is_name_byte c.args.text.now = c.split_at.ensures.back ∙ ap (λ (n : ℕ). drop n c.args.text.now) run ∙ drop-run is_name_byte c.args.text.now in
     let is : c.word_or_label.result ≡ word_or_label (name_run c.args.text.now) (behind is_name_byte c.args.text.now) =
     c.word_or_label.ensures ∙ ap (λ (n : ℕ). word_or_label n c.split_at.result.1.now) run ∙ ap (word_or_label (name_run c.args.text.now)) rest in
