@@ -2,12 +2,12 @@
 //!
 //! Clauses that are hard in one order are often easy in another. After a first solver a search in order has
 //! a turn, which is quick where few clauses count something, as pigeons in holes, and from the second round
-//! on another solver, which begins with equal gates, which products and divisions have, unless conflicts are
-//! counted. Each solver goes on where it stopped, and each round is longer than the one before. Nothing of a
-//! guess is promised.
+//! on another solver. That one begins with the first one's last values and with equal gates, which products and
+//! divisions have; where conflicts are counted it begins with the first variables instead. Each solver goes on
+//! where it stopped, and each round is longer than the one before. Nothing of a guess is promised.
 
 use crate::budget::Budget;
-use crate::guessing::{guess_under, sweep_once};
+use crate::guessing::{guess_under, swept};
 use crate::orders::by_significance;
 use cdcl::{Guessed, Solver};
 use clause_lits::{Assignment, Cnf};
@@ -21,9 +21,6 @@ const FIRST_LENGTH: u64 = 3000;
 
 /// A round is so many times as long as the one before.
 const GROWTH: u64 = 2;
-
-/// The second solver has one conflict for so many of the first one.
-const SECOND_PART: u64 = 2;
 
 /// How many clauses a search in order learns in the first round, times how many clauses there are.
 const FIRST_ORDERED: u64 = 1_000_000;
@@ -53,7 +50,7 @@ pub struct Attempts {
     first: Option<Solver>,
     second: Option<Solver>,
     turn: Turn,
-    /// How many conflicts a turn of the first solver has.
+    /// How many conflicts a turn of a solver has.
     length: u64,
     /// How many clauses a search in order learns, times how many there are.
     ordered: u64,
@@ -105,21 +102,23 @@ impl Attempts {
         }
     }
 
-    /// What the second solver guesses, which begins with the first variables.
+    /// What the second solver guesses.
     fn guess_second(&mut self, cnf: &Cnf, budget: &mut Budget) -> Result<Guess, NoMemory> {
-        let sweeps = !budget.is_limited();
-        let most = budget.take(self.length / SECOND_PART);
         if self.second.is_none() {
-            self.second = Solver::of(self.alloc, cnf, &[])?;
+            self.second = self.second_solver(cnf, budget)?;
         }
+        let most = budget.take(self.length);
         match &mut self.second {
-            Some(solver) => {
-                if sweeps {
-                    sweep_once(cnf.front, solver)?;
-                }
-                guess_by(cnf, solver, most)
-            }
+            Some(solver) => guess_by(cnf, solver, most),
             None => Ok(Guess::Nothing),
+        }
+    }
+
+    /// The second solver before its first turn.
+    fn second_solver(&self, cnf: &Cnf, budget: &Budget) -> Result<Option<Solver>, NoMemory> {
+        match &self.first {
+            Some(first) if !budget.is_limited() => Ok(Some(swept(cnf.front, first)?)),
+            _ => Solver::of(self.alloc, cnf, &[]),
         }
     }
 

@@ -72,15 +72,21 @@ pub fn guess_under(
     }
 }
 
-/// Puts a solver that has learned nothing in the place of this one, which looks for equal gates, and resolves
-/// variables away after that; unless this one did. The first `front` variables stay.
+/// A solver of the same clauses that has learned nothing but which gates are equal, and then resolved
+/// variables away. The first `front` variables stay.
+pub fn swept(front: u64, solver: &Solver) -> Result<Solver, NoMemory> {
+    let mut anew = solver.renewed()?;
+    anew.sweep(front, SWEEP_CONFLICTS)?;
+    anew.eliminate(front)?;
+    Ok(anew)
+}
+
+/// Puts such a solver in the place of this one, unless this one is such a one.
 pub fn sweep_once(front: u64, solver: &mut Solver) -> Result<(), NoMemory> {
-    if solver.is_swept() {
-        return Ok(());
+    if !solver.is_swept() {
+        *solver = swept(front, solver)?;
     }
-    *solver = solver.renewed()?;
-    solver.sweep(front, SWEEP_CONFLICTS)?;
-    solver.eliminate(front)
+    Ok(())
 }
 
 /// What is guessed, if it holds.
