@@ -7,6 +7,9 @@ use Rattle.verdicts.specs.declared.verdict.Cause.TheVariants.{Weight, Rounds, Co
 use Rattle.verdicts.specs.Pair.{run_pair}
 use Rattle.verdicts.specs.Trail.{open_point}
 use Rattle.verdicts.specs.Weight.{IsHeavy}
+use Rattle.slow_judge.specs.Search.{IsFound, IsEnd, HasAdded}
+use Rattle.slow_judge.specs.declared.round.Round.{Round}
+use Rattle.slow_judge.specs.declared.round.Round.TheVariants as round
 
 pub record IsGrown (pair : RunPair) (bounds : Bounds) (budget : Budget) (tapes : List (List ℕ)) : Type 0 where
   pub points : List Point
@@ -80,6 +83,23 @@ grown_full pair bounds budget tapes p tape grown least cover full = record {
   within = grown.within;
   ends = ends_at pair bounds budget tapes (slice_get (grown.points ++ p ∷ []) (length tapes)) (Some p) (Unknown Rounds) (one_behind grown.points tapes p grown.count) (full, record { tape = tape; fits = cover.fits; cover = cover.cover });
 }
+
+-- ---- a round
+
+-- the last round gives the verdict
+pub grown_end : (pair : RunPair) (bounds : Bounds) (budget : Budget) (tapes : List (List ℕ)) (found : Round) (v : Verdict) → IsGrown pair bounds budget tapes → IsFound pair bounds tapes found → IsEnd budget tapes found v → HasTrail pair bounds budget v
+grown_end pair bounds budget tapes round.Correct v grown is end = rw end (grown_correct pair bounds budget tapes grown is)
+grown_end pair bounds budget tapes (round.Incorrect p) v grown is end = rw end (grown_incorrect pair bounds budget tapes p grown is.0 is.1)
+grown_end pair bounds budget tapes (round.Covered tape) v grown is end = rw end.1 (grown_full pair bounds budget tapes is.point tape grown is.least is.cover end.0)
+
+-- and each other one a longer trail
+pub grown_on : (pair : RunPair) (bounds : Bounds) (budget : Budget) (tapes more : List (List ℕ)) (found : Round) → IsGrown pair bounds budget tapes → IsFound pair bounds tapes found → HasAdded budget tapes found more → IsGrown pair bounds budget more
+grown_on pair bounds budget tapes more round.Correct grown is added = absurd added
+grown_on pair bounds budget tapes more (round.Incorrect p) grown is added = absurd added
+grown_on pair bounds budget tapes more (round.Covered tape) grown is added =
+    let (room, e) = added in
+    let within = grown.within in
+    grown_more pair bounds budget tapes more is.point tape grown is.least is.cover (omega (arith, within, room)) e
 
 -- ---- the verdict
 

@@ -12,21 +12,25 @@ use Rattle.points.specs.declared.point.Layout.{Layout}
 use Rattle.points.specs.declared.point.Point.{Point}
 use Rattle.points.specs.declared.point.Shape.{Shape}
 use Rattle.verdicts.specs.declared.verdict.Kept.{Kept}
+use Rattle.verdicts.specs.declared.verdict.Cause.TheVariants.{Rounds}
 use Rattle.verdicts.specs.declared.verdict.Verdict.{Verdict}
+use Rattle.verdicts.specs.declared.verdict.Verdict.TheVariants as verdict
 use Rattle.verdicts.specs.Pair.{RunPair, layout_of}
 use Rattle.points.specs.Code.{ArgsFit, WordsFit}
 use Rattle.points.specs.Next.{least_value}
 use Rattle.points.specs.Run.{run_of, IsPlain}
 use Rattle.points.specs.Runnable.{IsRunnable}
 use Rattle.points.specs.Tapes.{need_of, widest_choice}
-use Rattle.verdicts.specs.Covers.{is_covered, word_before, word_behind}
-use Rattle.verdicts.specs.Trail.{place_in, TrailFrom, open_point, Ends}
+use Rattle.verdicts.specs.Covers.{is_covered, word_before, word_behind, IsLeastCover, HasNoCover}
+use Rattle.verdicts.specs.Trail.{place_in, TrailFrom, open_point, Ends, IsLeastUncovered, AreAllCovered}
 use Rattle.choice_interp.specs.declared.ending.Ending.{Ending}
 use Rattle.choice_interp.specs.Ran.{outcome_of}
 use Rattle.choice_interp.specs.Runners.{IsRunner}
 use Rattle.slow_judge.specs.declared.bench.Bench.{Bench}
 use Rattle.slow_judge.specs.declared.cover.Shift.{Shift}
 use Rattle.slow_judge.specs.declared.cover.Shift.TheVariants.{Later, Earlier}
+use Rattle.slow_judge.specs.declared.round.Round.{Round}
+use Rattle.slow_judge.specs.declared.round.Round.TheVariants.{Correct, Incorrect, Covered}
 
 pub record AreRunnable (pair : RunPair) : Type 0 where
   pub source : IsRunnable pair.source
@@ -110,6 +114,32 @@ pub record IsReady (pair : RunPair) (bounds : Bounds) (bench : Bench) : Type 0 w
   pub source : IsRunner pair.source bench.source
   pub target : IsRunner pair.target bench.target
   pub candidate : length bench.candidate ≡ need_of bounds.turns pair.source
+
+-- ---- a round
+
+-- the least tape that covers the least point that nothing so far covers
+pub record IsNextTape (pair : RunPair) (bounds : Bounds) (tapes : List (List ℕ)) (tape : List ℕ) : Type 0 where
+  pub point : Point
+  pub least : IsLeastUncovered pair bounds tapes point
+  pub cover : IsLeastCover pair bounds point tape
+
+-- what the round after these tapes finds
+abbrev pub IsFound : RunPair → Bounds → List (List ℕ) → Round → Type 0
+IsFound pair bounds tapes Correct = AreAllCovered pair bounds tapes
+IsFound pair bounds tapes (Incorrect p) = IsLeastUncovered pair bounds tapes p × HasNoCover pair bounds p
+IsFound pair bounds tapes (Covered tape) = IsNextTape pair bounds tapes tape
+
+-- the round after these tapes is the last, with this verdict
+abbrev pub IsEnd : Budget → List (List ℕ) → Round → Verdict → Type 0
+IsEnd budget tapes Correct v = v ≡ verdict.Correct
+IsEnd budget tapes (Incorrect p) v = v ≡ verdict.Incorrect p
+IsEnd budget tapes (Covered tape) v = (length tapes ≡ budget.rounds) × (v ≡ verdict.Unknown Rounds)
+
+-- or it found a tape, the budget has room for it, and the new tapes end with it
+abbrev pub HasAdded : Budget → List (List ℕ) → Round → List (List ℕ) → Type 0
+HasAdded budget old Correct new = ⊥
+HasAdded budget old (Incorrect p) new = ⊥
+HasAdded budget old (Covered tape) new = ¬ (length old ≡ budget.rounds) × (new ≡ old ++ tape ∷ [])
 
 -- the verdict of a pair that is not too heavy
 pub record HasTrail (pair : RunPair) (bounds : Bounds) (budget : Budget) (v : Verdict) : Type 0 where

@@ -12,7 +12,8 @@ ghost use Rattle.slow_judge.specs.Search.{AreRunnable, IsReady, HasTrail};
 
 use crate::bench::Bench;
 use crate::cells::zeros;
-use crate::search::{Tape, least_cover, least_uncovered};
+use crate::round::{add_tape, next_round};
+use crate::search::Tape;
 use choice_interp::runner_for;
 use pair_costs::{need, weight, widest_of};
 use points::{Bounds, Budget};
@@ -31,8 +32,44 @@ fn bench_for(alloc: Global, pair: &RunPair, bounds: &Bounds, need: usize) -> Res
     })
 }
 
-/// The verdict on a pair that is not too heavy.
+/// The verdict on a pair that is not too heavy, by rounds with this bench.
 fn grow(
+    alloc: Global,
+    pair: &RunPair,
+    bounds: &Bounds,
+    budget: &Budget,
+    of_source: Tape,
+    of_target: Tape,
+    bench: &mut Bench,
+) -> Result<Verdict, NoMemory>
+    requires pair { AreRunnable pair.now }
+    requires small { AreSmall bounds.now }
+    requires source_words { of_source.words ≡ need_of bounds.now.turns pair.now.source }
+    requires source_width { of_source.width.bits ≡ widest_choice pair.now.source }
+    requires target_words { of_target.words ≡ need_of bounds.now.turns pair.now.target }
+    requires target_width { of_target.width.bits ≡ widest_choice pair.now.target }
+    requires ready { IsReady pair.now bounds.now bench.old }
+    ensures { IfOk result (HasTrail pair.now bounds.now budget.now) }
+{
+    let mut tapes: Vec<Sequence<u64>> = Vec::new(alloc);
+    loop {
+        let found = next_round(
+            alloc,
+            pair,
+            bounds,
+            of_source,
+            of_target,
+            tapes.as_slice(),
+            bench,
+        )?;
+        if let Some(verdict) = add_tape(budget, &mut tapes, found)? {
+            return Ok(verdict);
+        }
+    }
+}
+
+/// The verdict on a pair that is not too heavy, by rounds.
+fn found_by_rounds(
     alloc: Global,
     pair: &RunPair,
     bounds: &Bounds,
@@ -49,28 +86,9 @@ fn grow(
     ensures { IfOk result (HasTrail pair.now bounds.now budget.now) }
 {
     let mut bench = bench_for(alloc, pair, bounds, of_source.words)?;
-    let mut tapes: Vec<Sequence<u64>> = Vec::new(alloc);
-    loop {
-        let point = match least_uncovered(
-            alloc,
-            pair,
-            bounds,
-            of_target,
-            tapes.as_slice(),
-            &mut bench,
-        )? {
-            Some(point) => point,
-            None => return Ok(Verdict::Correct),
-        };
-        let tape = match least_cover(alloc, pair, bounds, of_source, &point, &mut bench)? {
-            Some(tape) => tape,
-            None => return Ok(Verdict::Incorrect(point)),
-        };
-        if tapes.len() as u64 == budget.rounds {
-            return Ok(Verdict::Unknown(Cause::Rounds));
-        }
-        tapes.push(tape)?;
-    }
+    grow(
+        alloc, pair, bounds, budget, of_source, of_target, &mut bench,
+    )
 }
 
 /// The verdict on the functions of a pair that is not too heavy, as they are run.
@@ -92,7 +110,7 @@ fn found_of(
         words: need(run.target(), bounds.turns)? as usize,
         width: widest_of(run.target()),
     };
-    grow(alloc, run, bounds, budget, of_source, of_target)
+    found_by_rounds(alloc, run, bounds, budget, of_source, of_target)
 }
 
 /// The verdict on a pair that is not too heavy.

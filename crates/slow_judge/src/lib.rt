@@ -10,6 +10,7 @@ mod cells;
 mod cover;
 mod judge;
 mod pointers;
+mod round;
 mod search;
 
 pub use judge::slow;
