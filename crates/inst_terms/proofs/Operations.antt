@@ -1,5 +1,5 @@
 -- Each operation on numbers denotes its row.
-use Rattle.inst_terms.proofs.Common.{ℕ, ◌≡◌, ◌≤◌, ◌+◌, ◌-◌, ◌*◌, ◌%◌, ◌^◌, Bool, false, not, ◌&&◌, ◌||◌, nat_eq, nat_le, nat_lt, List, pos, bit_and, bit_or, bit_xor, ◌*ℤ◌, Flags, Add, Sub, Mul, UnsignedDiv, UnsignedRem, SignedDiv, SignedRem, ShiftLeft, LogicalShiftRight, ArithmeticShiftRight, And, Or, Xor, TermId, Term, quotient, remainder, shifted_left, shifted_right, shifted_signed, Makes, Tests, IsTerm, AreInRange, bit_at, term_at, signed_of, is_outside_signed, is_outside_unsigned, have_two_signs, is_flagged, is_negative, term-below, NarrowValue, IsRow, is_sign_alone, magnitude, negated_if}
+use Rattle.inst_terms.proofs.Common.{ℕ, ◌≡◌, ◌≤◌, ◌+◌, ◌-◌, ◌*◌, ◌%◌, ◌^◌, Bool, false, not, ◌&&◌, ◌||◌, nat_eq, nat_le, nat_lt, List, pos, bit_and, bit_or, bit_xor, ◌*ℤ◌, Flags, Add, Sub, Mul, UnsignedDiv, UnsignedRem, SignedDiv, SignedRem, ShiftLeft, LogicalShiftRight, ArithmeticShiftRight, And, Or, Xor, TermId, Term, quotient, remainder, shifted_left, shifted_right, shifted_signed, Makes, Tests, IsTerm, AreInRange, bit_at, term_at, signed_of, is_outside_signed, is_outside_unsigned, have_two_signs, is_flagged, is_negative, term-below, NarrowValue, IsNarrow, IsRow, is_sign_alone, magnitude, negated_if}
 use Rattle.inst_terms.proofs.Rows.{from_is-if, and_is, or_is, xor_is, divisor-positive, quotient_is, remainder_is}
 use Rattle.inst_terms.proofs.Additions.{sum_is, difference_is}
 use Rattle.inst_terms.proofs.Division.{signed_quotient_is, signed_remainder_is}
@@ -57,3 +57,10 @@ module _ (old new : List Term) (n : ℕ) (poison a b : TermId) (s : NarrowValue)
   pub xor-row : Tests new s.poison (λ _. false) → Makes new s.number n (λ v. bit_xor (term_at v old a) (term_at v old b))
       → IsRow old new Xor poison n a b s
   xor-row t m v _ e = rw (t.says v, m.says v) (xor_is n (term_at v old a) (term_at v old b))
+
+-- a truth value and a number of the width are a value at the width
+pub made_of : {test : (ℕ → ℕ → ℕ) → Bool} (terms : List Term) (n : ℕ) (s : NarrowValue) → Tests terms s.poison test → IsTerm terms n s.number → IsNarrow terms n s
+made_of terms n s t number = record { poison = record { within = t.within; wide = t.wide }; number = number }
+
+pub made_both : {test : (ℕ → ℕ → ℕ) → Bool} {value : (ℕ → ℕ → ℕ) → ℕ} (terms : List Term) (n : ℕ) (s : NarrowValue) → Tests terms s.poison test → Makes terms s.number n value → IsNarrow terms n s
+made_both terms n s t m = made_of terms n s t (record { within = m.within; wide = m.wide })

@@ -35,7 +35,7 @@ pub use Rattle.ir_tree.specs.declared.tree.Op.{Op}
 pub use Rattle.ir_tree.specs.declared.tree.Operand.{Operand}
 pub use Rattle.ir_tree.specs.declared.tree.Phi.{Phi}
 pub use Rattle.mem_terms.proofs.Eaches.{each-push, each-weaker, map-push, map-same, map-length, each-set, map-set, take-push, each-at, map-at, at-any}
-pub use Rattle.mem_terms.proofs.Later.{bit-later, term-later, is_term-later, memory-later, given_blocks-later, keeps_trans, sym_value-later, sym_values-later, value-later, values-later, sym_blocks-later, words_at-later, args_at-later, keeps_self, always_each-later, number-later, words-later}
+pub use Rattle.mem_terms.proofs.Later.{bit-later, term-later, is_term-later, memory-later, given_blocks-later, keeps_trans, sym_value-later, sym_values-later, value-later, values-later, sym_blocks-later, words_at-later, args_at-later, keeps_self, makes-later, always_each-later, number-later, words-later}
 pub use Rattle.mem_terms.proofs.Made.{small_mod, below-wider}
 pub use Rattle.mem_terms.proofs.Naming.{given_before, local_block, naming, given_named, local_named}
 pub use Rattle.mem_terms.specs.Memory.{IsAlways, SymFrame, IsSymBlock, frames_of, given_frames}

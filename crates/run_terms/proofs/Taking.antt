@@ -1,5 +1,5 @@
 -- A choice is taken.
-use Rattle.run_terms.proofs.Common.{ℕ, zero, suc, ◌≡◌, ◌<◌, ◌≤◌, ◌+◌, ◌%◌, ◌^◌, true, false, cond, not, ◌&&◌, ◌||◌, List, [], ◌∷◌, ◌++◌, length, map, take, nat_eq, nat_le, slice_index, refl, ap, sym, subst, ◌∙◌, arith, length-append, and-true, and_assoc, nat_tests, Num, Ptr, block_number, given_or_null, next_word, width_of, AreInRange, tree_in, number_at, keeps_trans, bit-later, term-later, is_term-later, words_at-later, small_mod, each-take, Machine, TermId, Term, Keeps, IsTerm, Makes, Tests, bit_at, term_at, SymValue, Reading, value_at, AreWords, words_at, Tally, RunState, Counts, IsState, IsTally, MatchesState, Scene, Sees, Visit, sight, fits_from}
+use Rattle.run_terms.proofs.Common.{ℕ, zero, suc, ◌≡◌, ◌<◌, ◌≤◌, ◌+◌, ◌%◌, ◌^◌, true, false, cond, not, ◌&&◌, ◌||◌, List, [], ◌∷◌, ◌++◌, length, map, take, nat_eq, nat_le, slice_index, refl, ap, sym, subst, ◌∙◌, arith, length-append, and-true, and_assoc, nat_tests, Num, Ptr, block_number, given_or_null, next_word, width_of, AreInRange, tree_in, number_at, keeps_trans, bit-later, term-later, makes-later, is_term-later, words_at-later, small_mod, each-take, Machine, TermId, Term, Keeps, IsTerm, Makes, Tests, bit_at, term_at, SymValue, Reading, value_at, AreWords, words_at, Tally, RunState, Counts, IsState, IsTally, MatchesState, Scene, Sees, Visit, sight, fits_from}
 use Rattle.run_terms.proofs.Cutting.{narrow}
 use Rattle.run_terms.proofs.Pointing.{chosen_block, names_given}
 
@@ -58,6 +58,45 @@ module _ (old new : List Term) (tape near : List TermId) (number read fits oread
         },
         mn.says g.v ∙ whole,
       )
+
+-- the word after those that were read, cut to the width, and the tally after it
+module _ (old a b d e f : List Term) (near : List TermId) (tally : Tally) (taken word low number : TermId) (n bits : ℕ) (is : bits ≡ n) (ka : Keeps old a) (kb : Keeps a b) (kd : Keeps b d) (ke : Keeps d e) (kf : Keeps e f)
+    (mw : Makes a word 64 (λ v. slice_index (words_at v old near) (term_at v old tally.read)))
+    (ml : Makes b low bits (λ v. term_at v a word % 2 ^ bits))
+    (mn : Makes d number 64 (λ v. term_at v b low % 2 ^ 64)) where
+  kde : Keeps old e
+  kde = keeps_trans old d e (keeps_trans old b d (keeps_trans old a b ka kb) kd) ke
+
+  cut_number : (v : ℕ → ℕ → ℕ) → term_at v d number ≡ slice_index (words_at v old near) (term_at v old tally.read) % 2 ^ n % 2 ^ 64
+  cut_number v = mn.says v ∙ ap (λ x. x % 2 ^ 64) (ml.says v ∙ (ap (λ i. term_at v a word % 2 ^ i) is ∙ ap (λ x. x % 2 ^ n) (mw.says v)))
+
+  pub among_number : Makes f number 64 (λ v. slice_index (words_at v old near) (term_at v old tally.read) % 2 ^ n % 2 ^ 64)
+  among_number = makes-later d f (keeps_trans d e f ke kf) number 64 (λ v. slice_index (words_at v old near) (term_at v old tally.read) % 2 ^ n % 2 ^ 64)
+      (record { within = mn.within; wide = mn.wide; says = cut_number })
+
+  pub among_read : (read : TermId) → IsTally old tally → IsTerm old 1 taken
+      → Makes e read 64 (λ v. cond (bit_at v d taken) ((term_at v d tally.read + 1) % 2 ^ 64) (term_at v d tally.read))
+      → Makes f read 64 (λ v. cond (bit_at v old taken) ((term_at v old tally.read + 1) % 2 ^ 64) (term_at v old tally.read))
+  among_read read ht hk mr =
+      let k = keeps_trans old b d (keeps_trans old a b ka kb) kd in
+      makes-later e f kf read 64 (λ v. cond (bit_at v old taken) ((term_at v old tally.read + 1) % 2 ^ 64) (term_at v old tally.read)) (record {
+        within = mr.within;
+        wide = mr.wide;
+        says = λ v. mr.says v ∙ rw (bit-later old d k v taken hk.within, term-later old d k v tally.read ht.read.within) refl;
+      })
+
+  pub among_fits : (fits : TermId) → IsTally old tally → IsTerm old 1 taken
+      → Tests f fits (λ v. bit_at v e tally.fits && (not (bit_at v e taken) || nat_eq (term_at v e word) (term_at v e number)))
+      → Tests f fits (λ v. bit_at v old tally.fits && (not (bit_at v old taken) || nat_eq (slice_index (words_at v old near) (term_at v old tally.read)) (slice_index (words_at v old near) (term_at v old tally.read) % 2 ^ n % 2 ^ 64)))
+  among_fits fits ht hk tf = record {
+    within = tf.within;
+    wide = tf.wide;
+    says = λ v.
+        let kae = keeps_trans a d e (keeps_trans a b d kb kd) ke in
+        let w = term-later a e kae v word mw.within ∙ mw.says v in
+        let m = term-later d e ke v number mn.within ∙ cut_number v in
+        tf.says v ∙ rw (bit-later old e kde v tally.fits ht.fits.within, bit-later old e kde v taken hk.within, w, m) refl;
+  }
 
 pub number_value : (a b : List Term) (poison number : TermId) (v : ℕ → ℕ → ℕ) (x : ℕ) → number.index < length a → Keeps a b → Tests b poison (λ _. false) → term_at v a number ≡ x → number_at v b (record { poison = poison; number = number }) ≡ Num x
 unfolding number_at
