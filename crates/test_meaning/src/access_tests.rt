@@ -3,7 +3,7 @@
 use crate::access_calls::{is_loaded, is_moved, is_stored, memory_of};
 use crate::access_rows::{BLOCKS, LOADS, OFFSETS, STORES};
 use crate::expecting::expect;
-use byte_block::{BlockName, Ptr, Value};
+use byte_block::{BlockName, Memory, Ptr, Value};
 use memory_access::{Access, Loaded, Stored, alloca, load, store};
 use std::test::Fail;
 use tv_num::Width;
@@ -44,27 +44,36 @@ fn indices_lead_to_the_offsets(rt: HostRuntime) -> Result<(), Fail> {
     Ok(())
 }
 
+const NAME: BlockName = BlockName::Local(1, 7);
+
+/// The last byte of a block of five bytes.
+const LAST: Value = Value::Ptr(Ptr {
+    block: NAME,
+    offset: 4,
+});
+
+const END: Value = Value::Ptr(Ptr {
+    block: NAME,
+    offset: 5,
+});
+
+/// Whether the block of five bytes, aligned to 4, is poison, and takes a byte.
+fn is_poison(memory: &mut Memory) -> bool {
+    let byte = Access::Int(Width::of(8));
+    load(memory, LAST, byte, 4) == Loaded::Done(Value::Poison)
+        && load(memory, END, byte, 1) == Loaded::Ub
+        && load(memory, LAST, byte, 8) == Loaded::Ub
+        && store(memory, Value::Num(9), byte, LAST, 4) == Stored::Done
+        && load(memory, LAST, byte, 1) == Loaded::Done(Value::Num(9))
+}
+
 #[test]
 fn an_alloca_is_a_block_of_poison(rt: HostRuntime) -> Result<(), Fail> {
-    let byte = Access::Int(Width::of(8));
-    let name = BlockName::Local(1, 7);
-    let last = Value::Ptr(Ptr {
-        block: name,
-        offset: 4,
-    });
-    let end = Value::Ptr(Ptr {
-        block: name,
-        offset: 5,
-    });
     let mut memory = memory_of(rt.alloc(), BLOCKS)?;
-    assert!(rt; load(&memory, last, byte, 1) == Loaded::Ub);
-    alloca(rt.alloc(), &mut memory, name, 5, 4)?;
-    assert!(rt; load(&memory, last, byte, 4) == Loaded::Done(Value::Poison));
-    assert!(rt; load(&memory, end, byte, 1) == Loaded::Ub);
-    assert!(rt; load(&memory, last, byte, 8) == Loaded::Ub);
-    assert!(rt; store(&mut memory, Value::Num(9), byte, last, 4) == Stored::Done);
+    let is_absent = load(&memory, LAST, Access::Int(Width::of(8)), 1) == Loaded::Ub;
+    alloca(rt.alloc(), &mut memory, NAME, 5, 4)?;
     expect(
-        load(&memory, last, byte, 1) == Loaded::Done(Value::Num(9)),
+        is_absent && is_poison(&mut memory),
         "an alloca is a block of poison",
     )
 }

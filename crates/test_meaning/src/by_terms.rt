@@ -25,9 +25,14 @@ pub struct InstTerms {
 
 /// The sum over the values of an instruction's terms.
 pub fn evaluated(alloc: Global, inst: &Inst) -> Result<u64, Fail> {
+    let pairs = operand_pairs(alloc, inst)?;
+    sum_over(alloc, inst, pairs.as_slice())
+}
+
+fn sum_over(alloc: Global, inst: &Inst, pairs: &[[Value; 2]]) -> Result<u64, Fail> {
     let inst_terms = terms_of(alloc, inst)?;
     let mut sum = 0;
-    for operands in operand_pairs(alloc, inst)?.as_slice() {
+    for operands in pairs {
         sum = with_given(sum, valued(alloc, &inst_terms, operands)?);
     }
     Ok(upper_half(sum))

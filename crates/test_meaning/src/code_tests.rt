@@ -65,6 +65,22 @@ fn one_of_each(alloc: Global) -> Result<Shape, NoMemory>
     Ok(shape)
 }
 
+/// Whether a point has the wanted code, if one is wanted.
+fn has_code(
+    alloc: Global,
+    point: &Point,
+    shape: &Shape,
+    wanted: Option<&[u64]>,
+) -> Result<bool, NoMemory>
+    requires { IsOfShape shape.now point.now }
+{
+    let code = code_of(alloc, point, shape)?;
+    match wanted {
+        Some(wanted) => Ok(code.as_slice() == wanted),
+        None => Ok(false),
+    }
+}
+
 /// Whether the point after the one with this code has the wanted code, or there is none, where none
 /// is wanted.
 fn is_followed_by(
@@ -76,13 +92,10 @@ fn is_followed_by(
     requires { IsCode shape.now code.now }
 {
     let mut point = point_of(alloc, code, shape)?;
-    if !next(&mut point, shape) {
-        return Ok(wanted.is_none());
-    }
-    let after = code_of(alloc, &point, shape)?;
-    match wanted {
-        Some(wanted) => Ok(after.as_slice() == wanted),
-        None => Ok(false),
+    if next(&mut point, shape) {
+        has_code(alloc, &point, shape, wanted)
+    } else {
+        Ok(wanted.is_none())
     }
 }
 
@@ -99,77 +112,89 @@ fn codes_come_back_from_their_points(rt: HostRuntime) -> Result<(), Fail> {
     )
 }
 
+/// Whether sizes follow bytes, and the parts of a pointer follow the numbers of a byte.
+fn parts_follow_numbers(alloc: Global, shape: &Shape) -> Result<bool, NoMemory>
+    requires no_byte { IsCode shape.now (0 ∷ 0 ∷ 0 ∷ 0 ∷ 0 ∷ 0 ∷ 0 ∷ 0 ∷ 0 ∷ 1 ∷ []) }
+    requires last_number { IsCode shape.now (0 ∷ 0 ∷ 1 ∷ 0 ∷ 0 ∷ 255 ∷ 0 ∷ 0 ∷ 0 ∷ 1 ∷ []) }
+    requires sixth_part { IsCode shape.now (0 ∷ 0 ∷ 1 ∷ 1 ∷ 0 ∷ 0 ∷ 0 ∷ 5 ∷ 6 ∷ 1 ∷ []) }
+{
+    Ok(
+        is_followed_by(
+            alloc,
+            shape,
+            &[0, 0, 0, 0, 0, 0, 0, 0, 0, 1],
+            Some(&[0, 0, 1, 0, 0, 0, 0, 0, 0, 0]),
+        )? && is_followed_by(
+            alloc,
+            shape,
+            &[0, 0, 1, 0, 0, 255, 0, 0, 0, 1],
+            Some(&[0, 0, 1, 1, 0, 0, 0, 0, 0, 0]),
+        )? && is_followed_by(
+            alloc,
+            shape,
+            &[0, 0, 1, 1, 0, 0, 0, 5, 6, 1],
+            Some(&[0, 0, 1, 1, 0, 0, 0, 5, 7, 0]),
+        )?,
+    )
+}
+
+/// Whether the blocks of a pointer follow its offsets, and masks follow pointers.
+fn masks_follow_parts(alloc: Global, shape: &Shape) -> Result<bool, NoMemory>
+    requires last_of_null { IsCode shape.now
+        (0 ∷ 0 ∷ 1 ∷ 1 ∷ 0 ∷ 0 ∷ 0 ∷ 18446744073709551615 ∷ 7 ∷ 1 ∷ []) }
+    requires last_part { IsCode shape.now
+        (0 ∷ 0 ∷ 1 ∷ 1 ∷ 0 ∷ 0 ∷ 1 ∷ 18446744073709551615 ∷ 7 ∷ 1 ∷ []) }
+    requires within_mask { IsCode shape.now (0 ∷ 1 ∷ 1 ∷ 2 ∷ 6 ∷ 1 ∷ 0 ∷ 0 ∷ 0 ∷ 1 ∷ []) }
+{
+    Ok(
+        is_followed_by(
+            alloc,
+            shape,
+            &[0, 0, 1, 1, 0, 0, 0, u64::MAX, 7, 1],
+            Some(&[0, 0, 1, 1, 0, 0, 1, 0, 0, 0]),
+        )? && is_followed_by(
+            alloc,
+            shape,
+            &[0, 0, 1, 1, 0, 0, 1, u64::MAX, 7, 1],
+            Some(&[0, 0, 1, 2, 1, 0, 0, 0, 0, 0]),
+        )? && is_followed_by(
+            alloc,
+            shape,
+            &[0, 1, 1, 2, 6, 1, 0, 0, 0, 1],
+            Some(&[0, 1, 1, 2, 6, 8, 0, 0, 0, 0]),
+        )?,
+    )
+}
+
+/// Whether masks end at poison, and an argument follows the last byte of all.
+fn arguments_follow_bytes(alloc: Global, shape: &Shape) -> Result<bool, NoMemory>
+    requires last_of_mask { IsCode shape.now (0 ∷ 1 ∷ 1 ∷ 2 ∷ 5 ∷ 250 ∷ 0 ∷ 0 ∷ 0 ∷ 1 ∷ []) }
+    requires poison_byte { IsCode shape.now (0 ∷ 1 ∷ 1 ∷ 2 ∷ 255 ∷ 0 ∷ 0 ∷ 0 ∷ 0 ∷ 1 ∷ []) }
+    requires last { IsCode shape.now (1 ∷ 0 ∷ 1 ∷ 2 ∷ 255 ∷ 0 ∷ 0 ∷ 0 ∷ 0 ∷ 1 ∷ []) }
+{
+    Ok(
+        is_followed_by(
+            alloc,
+            shape,
+            &[0, 1, 1, 2, 5, 250, 0, 0, 0, 1],
+            Some(&[0, 1, 1, 2, 6, 0, 0, 0, 0, 0]),
+        )? && is_followed_by(
+            alloc,
+            shape,
+            &[0, 1, 1, 2, 255, 0, 0, 0, 0, 1],
+            Some(&[1, 0, 0, 0, 0, 0, 0, 0, 0, 0]),
+        )? && is_followed_by(alloc, shape, &[1, 0, 1, 2, 255, 0, 0, 0, 0, 1], None)?,
+    )
+}
+
 #[test]
 fn bytes_come_before_sizes_and_sizes_before_arguments(rt: HostRuntime) -> Result<(), Fail> {
     let alloc = rt.alloc();
     let shape = one_of_each(alloc)?;
-    let most = u64::MAX;
-    assert!(rt;
-        is_followed_by(
-            alloc,
-            &shape,
-            &[0, 0, 0, 0, 0, 0, 0, 0, 0, 1],
-            Some(&[0, 0, 1, 0, 0, 0, 0, 0, 0, 0]),
-        )?
-    );
-    assert!(rt;
-        is_followed_by(
-            alloc,
-            &shape,
-            &[0, 0, 1, 0, 0, 255, 0, 0, 0, 1],
-            Some(&[0, 0, 1, 1, 0, 0, 0, 0, 0, 0]),
-        )?
-    );
-    assert!(rt;
-        is_followed_by(
-            alloc,
-            &shape,
-            &[0, 0, 1, 1, 0, 0, 0, 5, 6, 1],
-            Some(&[0, 0, 1, 1, 0, 0, 0, 5, 7, 0]),
-        )?
-    );
-    assert!(rt;
-        is_followed_by(
-            alloc,
-            &shape,
-            &[0, 0, 1, 1, 0, 0, 0, most, 7, 1],
-            Some(&[0, 0, 1, 1, 0, 0, 1, 0, 0, 0]),
-        )?
-    );
-    assert!(rt;
-        is_followed_by(
-            alloc,
-            &shape,
-            &[0, 0, 1, 1, 0, 0, 1, most, 7, 1],
-            Some(&[0, 0, 1, 2, 1, 0, 0, 0, 0, 0]),
-        )?
-    );
-    assert!(rt;
-        is_followed_by(
-            alloc,
-            &shape,
-            &[0, 1, 1, 2, 6, 1, 0, 0, 0, 1],
-            Some(&[0, 1, 1, 2, 6, 8, 0, 0, 0, 0]),
-        )?
-    );
-    assert!(rt;
-        is_followed_by(
-            alloc,
-            &shape,
-            &[0, 1, 1, 2, 5, 250, 0, 0, 0, 1],
-            Some(&[0, 1, 1, 2, 6, 0, 0, 0, 0, 0]),
-        )?
-    );
-    assert!(rt;
-        is_followed_by(
-            alloc,
-            &shape,
-            &[0, 1, 1, 2, 255, 0, 0, 0, 0, 1],
-            Some(&[1, 0, 0, 0, 0, 0, 0, 0, 0, 0]),
-        )?
-    );
+    expect(parts_follow_numbers(alloc, &shape)?, "parts follow numbers")?;
+    expect(masks_follow_parts(alloc, &shape)?, "masks follow parts")?;
     expect(
-        is_followed_by(alloc, &shape, &[1, 0, 1, 2, 255, 0, 0, 0, 0, 1], None)?,
+        arguments_follow_bytes(alloc, &shape)?,
         "bytes come before sizes and sizes before arguments",
     )
 }
@@ -229,14 +254,24 @@ fn one_pointer(alloc: Global) -> Result<Shape, NoMemory>
     Ok(shape)
 }
 
+/// Whether blocks follow offsets, and poison follows both.
+fn blocks_follow_offsets(alloc: Global, shape: &Shape) -> Result<bool, NoMemory>
+    requires last_of_null { IsCode shape.now (0 ∷ 0 ∷ 18446744073709551615 ∷ 0 ∷ []) }
+    requires last_given { IsCode shape.now (0 ∷ 1 ∷ 18446744073709551615 ∷ 0 ∷ []) }
+    requires poison { IsCode shape.now (1 ∷ 0 ∷ 0 ∷ 0 ∷ []) }
+{
+    Ok(
+        is_followed_by(alloc, shape, &[0, 0, u64::MAX, 0], Some(&[0, 1, 0, 0]))?
+            && is_followed_by(alloc, shape, &[0, 1, u64::MAX, 0], Some(&[1, 0, 0, 0]))?
+            && is_followed_by(alloc, shape, &[1, 0, 0, 0], None)?,
+    )
+}
+
 #[test]
 fn offsets_move_before_blocks(rt: HostRuntime) -> Result<(), Fail> {
-    let alloc = rt.alloc();
-    let shape = one_pointer(alloc)?;
-    assert!(rt; is_followed_by(alloc, &shape, &[0, 0, u64::MAX, 0], Some(&[0, 1, 0, 0]))?);
-    assert!(rt; is_followed_by(alloc, &shape, &[0, 1, u64::MAX, 0], Some(&[1, 0, 0, 0]))?);
+    let shape = one_pointer(rt.alloc())?;
     expect(
-        is_followed_by(alloc, &shape, &[1, 0, 0, 0], None)?,
+        blocks_follow_offsets(rt.alloc(), &shape)?,
         "offsets move before blocks",
     )
 }

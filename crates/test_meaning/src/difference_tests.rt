@@ -1,12 +1,14 @@
 //! How the outcomes of two runs differ. The block 1 has one byte, which is 0.
 
-ghost use Rattle.ir_reader.specs.Judgeable.{IsJudgeable};
+ghost use Rattle.std.specs.List.{AllByRecursion};
+ghost use Rattle.ir_reader.specs.Judgeable.{IsJudgeable, IsJudgeableEntry};
 
 use crate::expecting::expect;
 use crate::pairs::pair_in;
 use crate::words::value_in;
 use byte_block::{BlockName, Byte, MemoryBlock, Value};
 use ir_reader::read;
+use ir_tree::Module;
 use pair_trace::{difference_of, trace_pair};
 use points::{Bounds, Input, Point};
 use std::alloc::Global;
@@ -54,6 +56,18 @@ fn input_of(alloc: Global, arg: Value) -> Result<Input, NoMemory> {
     })
 }
 
+/// How the outcomes of a pair's runs at a point differ.
+fn difference_at(alloc: Global, pair: &Pair, point: &Point) -> Result<String, Fail>
+    requires source { IsJudgeable pair.now.source }
+    requires target { IsJudgeable pair.now.target }
+{
+    let traces = trace_pair(alloc, pair, &BOUNDS, point)?;
+    let found = difference_of(&traces.source.outcome, &traces.target.outcome);
+    let text = format!(in alloc; "{:?}", found)?;
+    Ok(text)
+}
+
+/// How the outcomes of a pair's runs on an argument differ.
 fn difference(alloc: Global, pair: &Pair, arg: Value) -> Result<String, Fail>
     requires source { IsJudgeable pair.now.source }
     requires target { IsJudgeable pair.now.target }
@@ -62,19 +76,24 @@ fn difference(alloc: Global, pair: &Pair, arg: Value) -> Result<String, Fail>
         input: input_of(alloc, arg)?,
         tape: Sequence::from_vec(Vec::new(alloc)),
     };
-    let traces = trace_pair(alloc, pair, &BOUNDS, &point)?;
-    let found = difference_of(&traces.source.outcome, &traces.target.outcome);
-    let text = format!(in alloc; "{:?}", found)?;
-    Ok(text)
+    difference_at(alloc, pair, &point)
+}
+
+/// Whether the outcomes of the runs of a module's pair differ so.
+fn differ(alloc: Global, module: &Module, arg: Value, wanted: &str) -> Result<bool, Fail>
+    requires { AllByRecursion IsJudgeableEntry module.now.entries }
+{
+    let pair = pair_in(module).ok_or("a pair")?;
+    let found = difference(alloc, &pair, arg)?;
+    Ok(found.as_str() == wanted)
 }
 
 fn holds(alloc: Global, row: &str) -> Result<bool, Fail> {
     let (arg, rest) = row.split_once(" | ").ok_or("an argument")?;
     let (wanted, text) = rest.split_once(" | ").ok_or("a difference")?;
-    let module = read(alloc, text.as_bytes()).ok().ok_or("a module")?;
-    let pair = pair_in(&module).ok_or("a pair")?;
     let arg = value_in(arg).ok_or("an argument")?;
-    Ok(difference(alloc, &pair, arg)?.as_str() == wanted)
+    let module = read(alloc, text.as_bytes()).ok().ok_or("a module")?;
+    differ(alloc, &module, arg, wanted)
 }
 
 #[test]

@@ -8,7 +8,7 @@ use crate::sums::SUMS;
 use byte_block::Value;
 use byte_block::Value::{Num, Poison};
 use ir_reader::read;
-use ir_tree::{Function, Module};
+use ir_tree::{Function, Inst, Module};
 use std::alloc::Global;
 use std::test::Fail;
 
@@ -29,15 +29,21 @@ fn is_sum(alloc: Global, module: &Module, sum: u64, instruction: &str) -> Result
     expect(both_sums(alloc, function)? == (sum, sum), instruction)
 }
 
+/// Fails where a line has another number of sums than there are columns, or one of them is another.
+fn have_sums(alloc: Global, line: &str) -> Result<(), Fail> {
+    let (instruction, sums) = line.split_once(": ").ok_or("a line has sums")?;
+    expect(sums.split_whitespace().count() == COLUMNS.len(), line)?;
+    for (&column, digits) in COLUMNS.iter().zip(sums.split_whitespace()) {
+        let sum = u64::from_str_radix(digits, 16)?;
+        are_sums(alloc, instruction, column, sum)?;
+    }
+    Ok(())
+}
+
 #[test]
 fn interpreter_and_terms_give_the_sums(rt: HostRuntime) -> Result<(), Fail> {
     for line in SUMS.lines() {
-        let (instruction, sums) = line.split_once(": ").ok_or("a line has sums")?;
-        expect(sums.split_whitespace().count() == COLUMNS.len(), line)?;
-        for (&column, digits) in COLUMNS.iter().zip(sums.split_whitespace()) {
-            let sum = u64::from_str_radix(digits, 16)?;
-            are_sums(rt.alloc(), instruction, column, sum)?;
-        }
+        have_sums(rt.alloc(), line)?;
     }
     Ok(())
 }
@@ -57,6 +63,13 @@ const SELECTED: [(Value, Value, Value, Given); 7] = [
     (Poison, Num(1), Num(1), Given::Poison),
 ];
 
+/// What the terms of an instruction give on operands.
+fn given_by_terms(alloc: Global, inst: &Inst, operands: &[Value]) -> Result<Given, Fail> {
+    let inst_terms = terms_of(alloc, inst)?;
+    let given = valued(alloc, &inst_terms, operands)?;
+    Ok(given)
+}
+
 /// Whether the interpreter and the terms of a function's instruction give the same on operands.
 fn is_given(
     alloc: Global,
@@ -65,18 +78,27 @@ fn is_given(
     given: Given,
 ) -> Result<bool, Fail> {
     let inst = instruction_in(function).ok_or("it has an instruction")?;
-    let by_terms = valued(alloc, &terms_of(alloc, inst)?, operands)?;
+    let by_terms = given_by_terms(alloc, inst, operands)?;
     Ok(returned(alloc, function, operands)? == given && by_terms == given)
+}
+
+/// Whether the function of the select gives what the rows say.
+fn are_given(alloc: Global, function: &Function) -> Result<bool, Fail> {
+    for &(condition, if_true, if_false, given) in &SELECTED {
+        let operands = [condition, if_true, if_false];
+        if !is_given(alloc, function, &operands, given)? {
+            return Ok(false);
+        }
+    }
+    Ok(true)
 }
 
 #[test]
 fn a_select_looks_at_the_chosen_arm_alone(rt: HostRuntime) -> Result<(), Fail> {
-    let alloc = rt.alloc();
-    let module = read(alloc, SELECT).ok().ok_or("the module is read")?;
+    let module = read(rt.alloc(), SELECT).ok().ok_or("the module is read")?;
     let function = function_in(&module).ok_or("the function is read")?;
-    for &(condition, if_true, if_false, given) in &SELECTED {
-        let operands = [condition, if_true, if_false];
-        assert!(rt; is_given(alloc, function, &operands, given)?);
-    }
-    Ok(())
+    expect(
+        are_given(rt.alloc(), function)?,
+        "a select looks at the chosen arm alone",
+    )
 }

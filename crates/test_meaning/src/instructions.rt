@@ -60,26 +60,30 @@ pub fn instruction_in(function: &Function) -> Option<&Inst> {
     function.blocks.as_slice().first()?.insts.as_slice().first()
 }
 
-/// The operands that a sum goes over, the left one slower. A cast has no right one: it is poison.
-pub fn operand_pairs(alloc: Global, inst: &Inst) -> Result<Vec<[Value; 2]>, Fail> {
+/// Each left operand with each right one, the left one slower.
+fn pairs_of(alloc: Global, lefts: &[Value], rights: &[Value]) -> Result<Vec<[Value; 2]>, NoMemory> {
     let mut pairs = Vec::new(alloc);
+    for left in lefts {
+        for right in rights {
+            pairs.push([*left, *right])?;
+        }
+    }
+    Ok(pairs)
+}
+
+/// The operands that a sum goes over. A cast has no right one: it is poison.
+pub fn operand_pairs(alloc: Global, inst: &Inst) -> Result<Vec<[Value; 2]>, Fail> {
     match inst {
         Inst::Binary { width, .. } | Inst::Icmp { width, .. } => {
             let values = operands(alloc, *width)?;
-            for left in values.as_slice() {
-                for right in values.as_slice() {
-                    pairs.push([*left, *right])?;
-                }
-            }
+            Ok(pairs_of(alloc, values.as_slice(), values.as_slice())?)
         }
         Inst::Cast { from, .. } => {
-            for value in operands(alloc, *from)?.as_slice() {
-                pairs.push([*value, Value::Poison])?;
-            }
+            let values = operands(alloc, *from)?;
+            Ok(pairs_of(alloc, values.as_slice(), &[Value::Poison])?)
         }
-        _ => return Err(Fail::from("a line has an operation, a comparison or a cast")),
+        _ => Err(Fail::from("a line has an operation, a comparison or a cast")),
     }
-    Ok(pairs)
 }
 
 /// Poison, and all numbers of at most 4 bits; of more bits those at the ends, about the middle and

@@ -113,13 +113,18 @@ fn each_turn_has_a_block_of_its_own(rt: HostRuntime) -> Result<(), Fail> {
     hold(rt.alloc(), TURNS)
 }
 
-fn is_chosen(alloc: Global, text: &str, line: &str) -> Result<bool, Fail> {
-    let (choice, tape) = line.split_once(":").ok_or("a tape")?;
+/// Whether a run on a tape of two words gives the wanted choice.
+fn chooses(alloc: Global, text: &str, choice: &str, tape: &[u64]) -> Result<bool, Fail> {
     let (kind, wanted) = choice.split_once(" ").ok_or("a choice")?;
-    let tape = numbers_in(alloc, tape)?;
-    let ran = run_on(alloc, text, Value::Poison, &tape)?;
+    let ran = run_on(alloc, text, Value::Poison, tape)?;
     let is_plain = kind == "plain";
     Ok(ran.read == 2 && ran.plain == is_plain && is_outcome(&ran.outcome, wanted))
+}
+
+fn is_chosen(alloc: Global, text: &str, line: &str) -> Result<bool, Fail> {
+    let (choice, tape) = line.split_once(":").ok_or("a tape")?;
+    let tape = numbers_in(alloc, tape)?;
+    chooses(alloc, text, choice, tape.as_slice())
 }
 
 /// A frozen poison pointer and a returned undef one are the same two words.
@@ -221,12 +226,19 @@ fn begins_twice(alloc: Global, f: &Function, input: &Input) -> Result<bool, NoMe
     begins_again(&mut runner, f, input)
 }
 
+/// Whether both of two runs in turn on the first block begin with the given blocks.
+fn begins_on_first(alloc: Global, f: &Function) -> Result<bool, NoMemory>
+    requires { IsRunnable f.now }
+{
+    let input = input_of(alloc, FIRST)?;
+    begins_twice(alloc, f, &input)
+}
+
 #[test]
 fn a_run_begins_with_the_given_blocks(rt: HostRuntime) -> Result<(), Fail> {
     let f = function_of(rt.alloc(), OVERWRITING)?;
-    let input = input_of(rt.alloc(), FIRST)?;
     expect(
-        begins_twice(rt.alloc(), &f, &input)?,
+        begins_on_first(rt.alloc(), &f)?,
         "a run begins with the given blocks",
     )
 }

@@ -57,10 +57,16 @@ fn is_ran(ran: &Ran, returned: &str, is_plain: bool) -> bool {
     }
 }
 
+/// The argument of a row, what is returned, the kind of the tape, and the tape.
+fn row_in(line: &str) -> Option<(&str, &str, &str, &str)> {
+    let (run_so, tape) = line.split_once(":")?;
+    let (arg, ending) = run_so.split_once(" ")?;
+    let (returned, kind) = ending.split_once(" ")?;
+    Some((arg, returned, kind, tape))
+}
+
 fn holds(alloc: Global, line: &str) -> Result<bool, Fail> {
-    let (run_so, tape) = line.split_once(":").ok_or("a tape")?;
-    let (arg, ending) = run_so.split_once(" ").ok_or("an argument")?;
-    let (returned, kind) = ending.split_once(" ").ok_or("a value")?;
+    let (arg, returned, kind, tape) = row_in(line).ok_or("a row")?;
     let tape = numbers_in(alloc, tape)?;
     let ran = run_on(alloc, arg, &tape)?;
     Ok(is_ran(&ran, returned, kind == "plain"))
@@ -90,12 +96,19 @@ fn runs_again(runner: &mut Runner, f: &Function, input: &Input) -> Result<bool, 
     Ok(first && second)
 }
 
+/// Whether both of two runs in turn on 1 return the sums.
+fn runs_on_one(alloc: Global, f: &Function) -> Result<bool, NoMemory>
+    requires { IsRunnable f.now }
+{
+    let input = input_of(alloc, Value::Num(1))?;
+    runs_twice(alloc, f, &input)
+}
+
 #[test]
 fn a_runner_runs_again_from_the_start(rt: HostRuntime) -> Result<(), Fail> {
     let f = function_of(rt.alloc(), SUM)?;
-    let input = input_of(rt.alloc(), Value::Num(1))?;
     expect(
-        runs_twice(rt.alloc(), &f, &input)?,
+        runs_on_one(rt.alloc(), &f)?,
         "a runner runs again from the start",
     )
 }

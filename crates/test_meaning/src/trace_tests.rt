@@ -1,10 +1,13 @@
 //! What the steps of a run show: each kind of reason, and all that the steps of a loop show.
 
+ghost use Rattle.points.specs.Runnable.{IsRunnable};
+
 use crate::expecting::expect;
 use crate::functions::function_of;
 use crate::reason_rows::REASONS;
 use crate::words::value_in;
 use byte_block::Value;
+use ir_tree::Function;
 use points::{Bounds, Input};
 use run_trace::{Step, Trace, trace};
 use std::alloc::{AllocError, Global};
@@ -64,11 +67,19 @@ fn input_of(alloc: Global, arg: Value) -> Result<Input, NoMemory> {
     })
 }
 
-/// The trace of the function of a text on an argument and a tape, with two backward jumps at most.
+/// The trace of a function on an argument and a tape, with two backward jumps at most.
+fn trace_on(alloc: Global, f: &Function, arg: Value, tape: &[u64]) -> Result<Trace, NoMemory>
+    requires { IsRunnable f.now }
+{
+    let input = input_of(alloc, arg)?;
+    trace(alloc, f, &BOUNDS, &input, tape)
+}
+
+/// The trace of the function of a text.
 fn trace_of(alloc: Global, text: &str, arg: &str, tape: &[u64]) -> Result<Trace, Fail> {
+    let arg = value_in(arg).ok_or("an argument")?;
     let f = function_of(alloc, text)?;
-    let input = input_of(alloc, value_in(arg).ok_or("an argument")?)?;
-    let traced = trace(alloc, &f, &BOUNDS, &input, tape)?;
+    let traced = trace_on(alloc, &f, arg, tape)?;
     Ok(traced)
 }
 
@@ -95,7 +106,8 @@ fn holds(alloc: Global, row: &str) -> Result<bool, Fail> {
     let (arg, rest) = row.split_once(" | ").ok_or("an argument")?;
     let (reasons, text) = rest.split_once(" | ").ok_or("reasons")?;
     let traced = trace_of(alloc, text, arg, &[])?;
-    Ok(reasons_of(alloc, traced.steps.as_slice())?.as_str() == reasons)
+    let found = reasons_of(alloc, traced.steps.as_slice())?;
+    Ok(found.as_str() == reasons)
 }
 
 #[test]

@@ -81,10 +81,9 @@ fn copies_text(alloc: Global, f: &Function, turns: u64) -> Result<String, Fail> 
     Ok(text)
 }
 
-/// Whether the two blocks have these copies.
-fn has_copies(alloc: Global, turns: u64, copies: &str) -> Result<bool, Fail> {
-    let f = two_blocks(alloc)?;
-    let text = copies_text(alloc, &f, turns)?;
+/// Whether a function's blocks have these copies.
+fn has_copies(alloc: Global, f: &Function, turns: u64, copies: &str) -> Result<bool, Fail> {
+    let text = copies_text(alloc, f, turns)?;
     Ok(text.as_str() == copies)
 }
 
@@ -97,33 +96,41 @@ const COPIES: [&str; 3] = [
 
 #[test]
 fn each_backward_jump_is_another_layer(rt: HostRuntime) -> Result<(), Fail> {
+    let f = two_blocks(rt.alloc())?;
     for (turns, copies) in COPIES.iter().enumerate() {
-        expect(has_copies(rt.alloc(), turns as u64, copies)?, copies)?;
+        expect(has_copies(rt.alloc(), &f, turns as u64, copies)?, copies)?;
     }
     Ok(())
 }
 
-/// The switch leads to its default, which is the block itself, and to a block that does not exist.
-#[test]
-fn a_label_that_no_block_has_leads_nowhere(rt: HostRuntime) -> Result<(), Fail> {
-    let alloc = rt.alloc();
+/// A switch to block 0 by default, and to a block that does not exist.
+fn switch(alloc: Global) -> Result<Terminator, NoMemory> {
     let cases = vec![in alloc; Case {
         width: Width::of(1),
         value: 0,
         to: 7
     }; 1]?;
-    let switch = Terminator::Switch {
+    Ok(Terminator::Switch {
         width: Width::of(1),
         operand: Operand::Poison,
         default: 0,
         cases: Sequence::from_vec(cases),
-    };
+    })
+}
+
+/// A block that ends with that switch.
+fn one_block(alloc: Global) -> Result<Function, NoMemory> {
     let mut blocks = Vec::new(alloc);
-    blocks.push(block(alloc, 0, switch))?;
-    let f = function(alloc, blocks);
-    let copies = copies_text(alloc, &f, 1)?;
+    blocks.push(block(alloc, 0, switch(alloc)?))?;
+    Ok(function(alloc, blocks))
+}
+
+/// The switch leads to its default, which is the block itself, and to a block that does not exist.
+#[test]
+fn a_label_that_no_block_has_leads_nowhere(rt: HostRuntime) -> Result<(), Fail> {
+    let f = one_block(rt.alloc())?;
     expect(
-        copies.as_str() == "0.0: 1 nowhere\n1.0: beyond nowhere\n",
+        has_copies(rt.alloc(), &f, 1, "0.0: 1 nowhere\n1.0: beyond nowhere\n")?,
         "a label that no block has leads nowhere",
     )
 }

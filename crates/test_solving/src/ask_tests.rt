@@ -125,15 +125,41 @@ fn none_is_below_0(rt: HostRuntime) -> Result<(), Fail> {
     expect(is_refuted(&rt, rt.alloc(), &below(rt.alloc(), 0)?), "none")
 }
 
+/// Whether no square is a constant.
+fn has_no_root(
+    rt: &(impl Threads + Sync),
+    alloc: Global,
+    value: u128,
+    limit: Option<u64>,
+) -> Result<bool, NoMemory>
+    requires value { value < 256 }
+    requires limit { IfSome limit (λ n. 0 < n) }
+{
+    let asked = roots(alloc, value, limit)?;
+    Ok(is_refuted(rt, alloc, &asked))
+}
+
 /// No square is 2 modulo 256, also where a limit of 1 would do.
 #[test]
 fn no_square_is_2(rt: HostRuntime) -> Result<(), Fail> {
     let alloc = rt.alloc();
-    assert!(rt; is_refuted(&rt, alloc, &roots(alloc, 2, None)?));
+    assert!(rt; has_no_root(&rt, alloc, 2, None)?);
     expect(
-        is_refuted(&rt, alloc, &roots(alloc, 2, Some(1))?),
+        has_no_root(&rt, alloc, 2, Some(1))?,
         "none with the limit 1",
     )
+}
+
+/// The numbers 0 and 23, most significant bit first.
+const ROOT_OF_17: [bool; 16] = [
+    false, false, false, false, false, false, false, false, false, false, false, true, false, true,
+    true, true,
+];
+
+/// Whether the least root of 17 is 23.
+fn has_least_root(alloc: Global) -> Result<bool, NoMemory> {
+    let asked = roots(alloc, 17, None)?;
+    Ok(is_least(&asked, &ROOT_OF_17))
 }
 
 /// The least root of 17 modulo 256 is 23. With a limit of 1 one clause is learned, and no more is
@@ -141,15 +167,9 @@ fn no_square_is_2(rt: HostRuntime) -> Result<(), Fail> {
 #[test]
 fn a_limit_of_1_is_spent(rt: HostRuntime) -> Result<(), Fail> {
     let alloc = rt.alloc();
-    let want = [
-        false, false, false, false, false, false, false, false, false, false, false, true, false,
-        true, true, true,
-    ];
-    assert!(rt; is_least(&roots(alloc, 17, None)?, &want));
-    expect(
-        is_spent(&roots(alloc, 17, Some(1))?, 1),
-        "the limit 1 is spent",
-    )
+    assert!(rt; has_least_root(alloc)?);
+    let asked = roots(alloc, 17, Some(1))?;
+    expect(is_spent(&asked, 1), "the limit 1 is spent")
 }
 
 /// Of the models of `1 2`, as two numbers of one bit, the least is 0 1.

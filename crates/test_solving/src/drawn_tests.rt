@@ -1,6 +1,7 @@
 //! Small sets of clauses that look random, against all assignments.
 
 use crate::clauses::{clause, over};
+use crate::expecting::expect;
 use crate::restart_tests::answer;
 use clause_lits::{Clause, Cnf, holds};
 use clause_log::check_log;
@@ -77,15 +78,22 @@ fn is_right(
     }
 }
 
-/// The answers of both solvers and of searches in turn.
+/// Whether what a search gives is right.
+fn is_found(
+    rt: &(impl Threads + Sync),
+    alloc: Global,
+    cnf: &Cnf,
+    answer: Result<Answer, NoMemory>,
+) -> Result<bool, NoMemory> {
+    is_right(rt, alloc, cnf, &answer?)
+}
+
+/// Whether both solvers and searches in turn are right.
 fn are_right(rt: &(impl Threads + Sync), alloc: Global, cnf: &Cnf) -> Result<bool, NoMemory> {
-    let watched = watch_solver::solve(alloc, cnf, None)?;
-    let scanned = clause_solver::solve(alloc, cnf, None)?;
-    let turned = answer(alloc, cnf, 0)?;
     Ok(
-        is_right(rt, alloc, cnf, &watched)?
-            && is_right(rt, alloc, cnf, &scanned)?
-            && is_right(rt, alloc, cnf, &turned)?,
+        is_found(rt, alloc, cnf, watch_solver::solve(alloc, cnf, None))?
+            && is_found(rt, alloc, cnf, clause_solver::solve(alloc, cnf, None))?
+            && is_found(rt, alloc, cnf, answer(alloc, cnf, 0))?,
     )
 }
 
@@ -95,7 +103,10 @@ fn drawn_clauses_have_least_models(rt: HostRuntime) -> Result<(), Fail> {
     let mut state = 2;
     for _ in 0..300 {
         let question = drawn_cnf(rt.alloc(), &mut state)?;
-        assert!(rt; are_right(&rt, rt.alloc(), &question)?);
+        expect(
+            are_right(&rt, rt.alloc(), &question)?,
+            "a drawn set of clauses",
+        )?;
     }
     Ok(())
 }

@@ -9,9 +9,8 @@ use std::test::Fail;
 use support::NoMemory;
 use term_folds::{Print, Substitute, Weigh};
 
-/// How many gates the terms of a text take.
-fn gates_of(alloc: Global, terms: &mut Terms, text: &str) -> Result<usize, NoMemory> {
-    written(alloc, terms, text)?;
+/// How many gates terms take.
+fn gates_in(alloc: Global, terms: &Terms) -> Result<usize, NoMemory> {
     let mut blast = Blast::new(alloc);
     match fold(alloc, terms, &mut blast) {
         Ok(_) => Ok(blast.circuit().len()),
@@ -19,39 +18,53 @@ fn gates_of(alloc: Global, terms: &mut Terms, text: &str) -> Result<usize, NoMem
     }
 }
 
+/// How many gates the terms of a text take.
+fn gates_of(alloc: Global, text: &str) -> Result<usize, NoMemory> {
+    let mut terms = Terms::new(alloc);
+    written(alloc, &mut terms, text)?;
+    gates_in(alloc, &terms)
+}
+
 /// The quotient and the remainder of the same numbers are one circuit.
 #[test]
 fn a_remainder_beside_its_quotient_is_free(rt: HostRuntime) -> Result<(), Fail> {
-    let alone = gates_of(rt.alloc(), &mut Terms::new(rt.alloc()), "xy/")?;
-    let both = gates_of(rt.alloc(), &mut Terms::new(rt.alloc()), "xy/xy%:")?;
+    let alone = gates_of(rt.alloc(), "xy/")?;
+    let both = gates_of(rt.alloc(), "xy/xy%:")?;
     expect(both == alone, "a remainder beside its quotient is free")
+}
+
+/// Whether the last term is written so.
+fn is_written(alloc: Global, terms: &Terms, want: &str) -> Result<bool, NoMemory> {
+    let Ok(texts) = fold(alloc, terms, &mut Print { alloc }) else {
+        return Err(NoMemory);
+    };
+    Ok(match texts.as_slice().last() {
+        Some(last) => last.as_str() == want,
+        None => false,
+    })
 }
 
 /// A term is written with the name of its operation before its parts.
 #[test]
 fn terms_are_written(rt: HostRuntime) -> Result<(), Fail> {
-    let alloc = rt.alloc();
-    let mut terms = Terms::new(alloc);
-    written(alloc, &mut terms, "x5+pyp<")?;
-    match fold(alloc, &terms, &mut Print { alloc }) {
-        Ok(texts) => match texts.as_slice() {
-            [.., last] => assert!(rt;
-                last.as_str() == "(ult (extract 1 2 (add v0:3 5:3)) (extract 1 2 v1:3))"
-            ),
-            [] => assert!(rt; false),
-        },
-        Err(_) => assert!(rt; false),
+    let mut terms = Terms::new(rt.alloc());
+    written(rt.alloc(), &mut terms, "x5+pyp<")?;
+    let want = "(ult (extract 1 2 (add v0:3 5:3)) (extract 1 2 v1:3))";
+    expect(is_written(rt.alloc(), &terms, want)?, want)
+}
+
+/// How many nodes a term has.
+fn weight_in(alloc: Global, terms: &Terms, id: TermId) -> Result<Option<u64>, NoMemory> {
+    match fold(alloc, terms, &mut Weigh) {
+        Ok(found) => Ok(found.get(id.index).copied()),
+        Err(_) => Err(NoMemory),
     }
-    Ok(())
 }
 
 /// How many nodes the term of a text has.
 fn weight_of(alloc: Global, terms: &mut Terms, text: &str) -> Result<Option<u64>, NoMemory> {
     let id = written(alloc, terms, text)?;
-    match fold(alloc, terms, &mut Weigh) {
-        Ok(found) => Ok(found.get(id.index).copied()),
-        Err(_) => Err(NoMemory),
-    }
+    weight_in(alloc, terms, id)
 }
 
 /// A variable of 8 bits that is added to itself, and the sum to itself, this number of times.
@@ -70,10 +83,7 @@ fn doubled(terms: &mut Terms, times: usize) -> Result<TermId, NoMemory> {
 fn weight_doubled(alloc: Global, times: usize) -> Result<Option<u64>, NoMemory> {
     let mut terms = Terms::new(alloc);
     let id = doubled(&mut terms, times)?;
-    match fold(alloc, &terms, &mut Weigh) {
-        Ok(found) => Ok(found.get(id.index).copied()),
-        Err(_) => Err(NoMemory),
-    }
+    weight_in(alloc, &terms, id)
 }
 
 /// A sum of two terms with n nodes has 2n + 1. So 63 sums in turn have 2^64 - 1, the greatest number,
@@ -111,34 +121,50 @@ fn exchange(substitute: &mut Substitute, x: TermId, y: TermId) -> Result<(), NoM
     replace(substitute, 1, x)
 }
 
+/// The variables y and x.
+fn variables(alloc: Global, store: &mut Terms) -> Result<(TermId, TermId), NoMemory> {
+    let y = written(alloc, store, "y")?;
+    let x = written(alloc, store, "x")?;
+    Ok((y, x))
+}
+
 /// A store of y and x, each of which replaces the other.
 fn exchanging(alloc: Global) -> Result<Substitute, NoMemory> {
     let mut store = Terms::new(alloc);
-    let y = written(alloc, &mut store, "y")?;
-    let x = written(alloc, &mut store, "x")?;
+    let (y, x) = variables(alloc, &mut store)?;
     let mut substitute = Substitute::new(alloc, store);
     exchange(&mut substitute, x, y)?;
     Ok(substitute)
 }
 
-/// What a substitution makes of a text's term.
+/// What a substitution makes of a term.
 fn substituted(
+    alloc: Global,
+    terms: &Terms,
+    id: TermId,
+    substitute: &mut Substitute,
+) -> Result<Option<TermId>, NoMemory> {
+    match fold(alloc, terms, substitute) {
+        Ok(ids) => Ok(ids.get(id.index).copied()),
+        Err(_) => Err(NoMemory),
+    }
+}
+
+/// What a substitution makes of a text's term.
+fn substituted_in(
     alloc: Global,
     text: &str,
     substitute: &mut Substitute,
 ) -> Result<Option<TermId>, NoMemory> {
     let mut terms = Terms::new(alloc);
     let id = written(alloc, &mut terms, text)?;
-    match fold(alloc, &terms, substitute) {
-        Ok(ids) => Ok(ids.get(id.index).copied()),
-        Err(_) => Err(NoMemory),
-    }
+    substituted(alloc, &terms, id, substitute)
 }
 
 /// Whether a text with x for y and y for x is another text.
 fn is_exchanged(alloc: Global, text: &str, want: &str) -> Result<bool, NoMemory> {
     let mut substitute = exchanging(alloc)?;
-    let found = substituted(alloc, text, &mut substitute)?;
+    let found = substituted_in(alloc, text, &mut substitute)?;
     let mut store = substitute.into_terms();
     let want = written(alloc, &mut store, want)?;
     Ok(found == Some(want))

@@ -8,9 +8,9 @@ use std::alloc::Global;
 use std::test::Fail;
 use support::{NoMemory, Sequence};
 
-/// How many gates there are besides the three inputs after both texts, or `None` where they write
-/// two gates.
-fn gates_of_one(
+/// How many gates there are in a circuit besides three new inputs after both texts, or `None` where
+/// they write two gates.
+fn gates_in(
     alloc: Global,
     circuit: &mut Circuit,
     first: &str,
@@ -26,6 +26,11 @@ fn gates_of_one(
     } else {
         None
     })
+}
+
+fn gates_of_one(alloc: Global, first: &str, second: &str) -> Result<Option<usize>, NoMemory> {
+    let mut circuit = Circuit::new(alloc);
+    gates_in(alloc, &mut circuit, first, second)
 }
 
 /// Two texts that write one gate, and how many gates are made besides the inputs: equal gates are
@@ -51,8 +56,7 @@ fn is_one_gate(alloc: Global, row: &str) -> Result<(), Fail> {
     let (first, rest) = row.split_once(" ").ok_or("a gate")?;
     let (second, count) = rest.split_once(" ").ok_or("another gate")?;
     let count = count.parse::<usize>()?;
-    let found = gates_of_one(alloc, &mut Circuit::new(alloc), first, second)?;
-    expect(found == Some(count), row)
+    expect(gates_of_one(alloc, first, second)? == Some(count), row)
 }
 
 #[test]
@@ -72,6 +76,11 @@ fn conjunction(alloc: Global, circuit: &mut Circuit) -> Result<Cnf, NoMemory> {
     to_cnf(alloc, circuit, both, &[a, b])
 }
 
+fn conjunction_alone(alloc: Global) -> Result<Cnf, NoMemory> {
+    let mut circuit = Circuit::new(alloc);
+    conjunction(alloc, &mut circuit)
+}
+
 /// Whether three variables are a model where they are the bits of a code.
 fn is_model(alloc: Global, cnf: &Cnf, code: u32) -> Result<bool, NoMemory> {
     let bits = [code & 1 == 1, code & 2 == 2, code & 4 == 4];
@@ -79,19 +88,26 @@ fn is_model(alloc: Global, cnf: &Cnf, code: u32) -> Result<bool, NoMemory> {
     Ok(assignment.len() as u64 == cnf.variables && holds(cnf, &assignment))
 }
 
+/// The values of the first two variables in the models of clauses over three, as a set of numbers of
+/// two bits.
+fn fronts(alloc: Global, cnf: &Cnf) -> Result<u32, NoMemory> {
+    let mut models: u32 = 0;
+    for code in 0..8u32 {
+        if is_model(alloc, cnf, code)? {
+            models |= 1 << (code & 3);
+        }
+    }
+    Ok(models)
+}
+
 /// `a and b` has three variables and four clauses, and none of the gate that it does not need. Two
 /// variables are ordered, and in a model their values are 1, 1.
 #[test]
 fn the_front_of_an_and_is_1_1(rt: HostRuntime) -> Result<(), Fail> {
-    let cnf = conjunction(rt.alloc(), &mut Circuit::new(rt.alloc()))?;
-    assert!(rt; cnf.front == 2);
-    assert!(rt; cnf.variables == 3);
-    assert!(rt; cnf.clauses.len() == 4);
-    let mut models: u32 = 0;
-    for code in 0..8u32 {
-        if is_model(rt.alloc(), &cnf, code)? {
-            models |= 1 << (code & 3);
-        }
-    }
-    expect(models == 8, "the front of an and is 1 1")
+    let cnf = conjunction_alone(rt.alloc())?;
+    let sizes = (cnf.front, cnf.variables, cnf.clauses.len());
+    expect(
+        sizes == (2, 3, 4) && fronts(rt.alloc(), &cnf)? == 8,
+        "the front of an and is 1 1",
+    )
 }

@@ -30,22 +30,38 @@ fn is_right(
     }
 }
 
+/// Whether the guess of a solver within this many conflicts is right.
+fn guess(
+    alloc: Global,
+    cnf: &Cnf,
+    solver: &mut Solver,
+    most: u64,
+) -> Result<Option<bool>, NoMemory> {
+    let guessed = solver.solve(&[], most)?;
+    is_right(alloc, cnf, solver, guessed)
+}
+
 /// Whether a guess within this many conflicts is right.
 fn is_guessed(alloc: Global, cnf: &Cnf, most: u64) -> Result<Option<bool>, NoMemory> {
-    let Some(mut solver) = Solver::of(alloc, cnf, &[])? else {
-        return Ok(None);
-    };
-    let guessed = solver.solve(&[], most)?;
-    is_right(alloc, cnf, &mut solver, guessed)
+    match Solver::of(alloc, cnf, &[])? {
+        Some(mut solver) => guess(alloc, cnf, &mut solver, most),
+        None => Ok(None),
+    }
+}
+
+/// Whether a guess within this many conflicts is right for these numbers of pigeons and holes.
+fn are_guessed(alloc: Global, count: i64, holes: i64, most: u64) -> Result<Option<bool>, NoMemory> {
+    let clauses = pigeons(alloc, count, holes)?;
+    is_guessed(alloc, &clauses, most)
 }
 
 /// Four pigeons fit into four holes, and seven not into six; three conflicts don't suffice to tell.
 #[test]
 fn pigeons_are_guessed(rt: HostRuntime) -> Result<(), Fail> {
     let alloc = rt.alloc();
-    assert!(rt; is_guessed(alloc, &pigeons(alloc, 4, 4)?, 1000)? == Some(true));
-    assert!(rt; is_guessed(alloc, &pigeons(alloc, 7, 6)?, 100_000)? == Some(true));
-    assert!(rt; is_guessed(alloc, &pigeons(alloc, 7, 6)?, 3)?.is_none());
+    assert!(rt; are_guessed(alloc, 4, 4, 1000)? == Some(true));
+    assert!(rt; are_guessed(alloc, 7, 6, 100_000)? == Some(true));
+    assert!(rt; are_guessed(alloc, 7, 6, 3)?.is_none());
     Ok(())
 }
 
@@ -59,14 +75,18 @@ fn opposites(alloc: Global) -> Result<Cnf, NoMemory> {
     )
 }
 
+/// Whether the guess of a solver is right once variables were resolved away.
+fn guess_of_fewer(alloc: Global, cnf: &Cnf, solver: &mut Solver) -> Result<Option<bool>, NoMemory> {
+    solver.eliminate(cnf.front)?;
+    guess(alloc, cnf, solver, 1)
+}
+
 /// Whether what is guessed is right once variables were resolved away.
 fn is_guessed_of_fewer(alloc: Global, cnf: &Cnf) -> Result<Option<bool>, NoMemory> {
-    let Some(mut solver) = Solver::of(alloc, cnf, &[])? else {
-        return Ok(None);
-    };
-    solver.eliminate(cnf.front)?;
-    let guessed = solver.solve(&[], 1)?;
-    is_right(alloc, cnf, &mut solver, guessed)
+    match Solver::of(alloc, cnf, &[])? {
+        Some(mut solver) => guess_of_fewer(alloc, cnf, &mut solver),
+        None => Ok(None),
+    }
 }
 
 /// Variables that were resolved away have values that make the clauses true.

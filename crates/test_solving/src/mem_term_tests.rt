@@ -66,20 +66,32 @@ fn truth_of(
 
 /// For each function the bits of its values at true and true, true and false, false and true, false
 /// and false, most significant bit first.
+const TRUTHS: [(Truth, u128); 4] = [
+    (Truth::Negation, 0b0011),
+    (Truth::Both, 0b1000),
+    (Truth::Either, 0b1110),
+    (Truth::Implies, 0b1011),
+];
+
+/// Whether a function of two truths has these values.
+fn has_truths(alloc: Global, terms: &mut Terms, op: Truth, wants: u128) -> Result<bool, NoMemory> {
+    for case in 0..4u32 {
+        let found = truth_of(alloc, terms, op, case & 2 == 2, case & 1 == 1)?;
+        if found != Some(wants >> case & 1) {
+            return Ok(false);
+        }
+    }
+    Ok(true)
+}
+
 #[test]
 fn truths_of_two(rt: HostRuntime) -> Result<(), Fail> {
-    let rows = [
-        (Truth::Negation, 0b0011),
-        (Truth::Both, 0b1000),
-        (Truth::Either, 0b1110),
-        (Truth::Implies, 0b1011),
-    ];
     let mut terms = Terms::new(rt.alloc());
-    for &(op, wants) in &rows {
-        for case in 0..4u32 {
-            let found = truth_of(rt.alloc(), &mut terms, op, case & 2 == 2, case & 1 == 1)?;
-            assert!(rt; found == Some(wants >> case & 1));
-        }
+    for &(op, wants) in &TRUTHS {
+        expect(
+            has_truths(rt.alloc(), &mut terms, op, wants)?,
+            "a function of two truths",
+        )?;
     }
     Ok(())
 }
@@ -117,33 +129,29 @@ fn number_of(
 }
 
 /// A function of two numbers, the numbers, and its value.
-const NUMBERS: &str = "\
-equals 5 5 1
-equals 5 6 0
-less 1 2 1
-less 2 2 0
-less 18446744073709551615 0 0
-less_signed 1 2 1
-less_signed 2 2 0
-less_signed 18446744073709551615 0 1
-less_signed 9223372036854775807 9223372036854775808 0
-first 3 4 3
-byte 300 0 44
-wide 18446744073709551615 0 18446744073709551615";
-
-fn is_valued(alloc: Global, terms: &mut Terms, row: &str) -> Result<(), Fail> {
-    let (op, rest) = row.split_once(" ").ok_or("a function")?;
-    let (a, rest) = rest.split_once(" ").ok_or("a number")?;
-    let (b, want) = rest.split_once(" ").ok_or("another number")?;
-    let found = number_of(alloc, terms, op, a.parse::<u64>()?, b.parse::<u64>()?)?;
-    expect(found == Some(want.parse::<u128>()?), row)
-}
+const NUMBERS: [(&str, u64, u64, u128); 12] = [
+    ("equals", 5, 5, 1),
+    ("equals", 5, 6, 0),
+    ("less", 1, 2, 1),
+    ("less", 2, 2, 0),
+    ("less", 18446744073709551615, 0, 0),
+    ("less_signed", 1, 2, 1),
+    ("less_signed", 2, 2, 0),
+    ("less_signed", 18446744073709551615, 0, 1),
+    ("less_signed", 9223372036854775807, 9223372036854775808, 0),
+    ("first", 3, 4, 3),
+    ("byte", 300, 0, 44),
+    ("wide", 18446744073709551615, 0, 18446744073709551615),
+];
 
 #[test]
 fn numbers_of_two(rt: HostRuntime) -> Result<(), Fail> {
     let mut terms = Terms::new(rt.alloc());
-    for row in NUMBERS.lines() {
-        is_valued(rt.alloc(), &mut terms, row)?;
+    for &(op, a, b, want) in &NUMBERS {
+        expect(
+            number_of(rt.alloc(), &mut terms, op, a, b)? == Some(want),
+            op,
+        )?;
     }
     Ok(())
 }

@@ -94,16 +94,34 @@ fn value_in(alloc: Global, terms: &Terms, s: SymValue) -> Result<Value, NoMemory
 
 // ---- values of both kinds
 
-const fn to(block: u64, offset: u64) -> Value {
-    Value::Ptr(Ptr {
-        block: BlockName::Given(block),
-        offset,
-    })
-}
-
 const NULL: Value = Value::Ptr(Ptr {
     block: BlockName::Null,
     offset: 0,
+});
+
+const FIRST_AT_0: Value = Value::Ptr(Ptr {
+    block: BlockName::Given(1),
+    offset: 0,
+});
+
+const FIRST_AT_8: Value = Value::Ptr(Ptr {
+    block: BlockName::Given(1),
+    offset: 8,
+});
+
+const SECOND_AT_8: Value = Value::Ptr(Ptr {
+    block: BlockName::Given(2),
+    offset: 8,
+});
+
+const SECOND_AT_9: Value = Value::Ptr(Ptr {
+    block: BlockName::Given(2),
+    offset: 9,
+});
+
+const SECOND_AT_LAST: Value = Value::Ptr(Ptr {
+    block: BlockName::Given(2),
+    offset: u64::MAX,
 });
 
 /// A value where a number is used, and where a pointer is.
@@ -115,21 +133,32 @@ fn used(alloc: Global, terms: &mut Terms, value: Value) -> Result<(Value, Value)
     Ok((value_in(alloc, terms, n)?, value_in(alloc, terms, address)?))
 }
 
+/// A value, and what it is where a number is used and where a pointer is.
+const USES: [(Value, (Value, Value)); 6] = [
+    (Value::Poison, (Value::Poison, Value::Poison)),
+    (Value::Num(0), (Value::Num(0), Value::Poison)),
+    (Value::Num(7), (Value::Num(7), Value::Poison)),
+    (NULL, (Value::Poison, NULL)),
+    (FIRST_AT_0, (Value::Poison, FIRST_AT_0)),
+    (SECOND_AT_LAST, (Value::Poison, SECOND_AT_LAST)),
+];
+
+fn are_used(alloc: Global, terms: &mut Terms) -> Result<bool, NoMemory> {
+    for &(value, wants) in &USES {
+        if used(alloc, terms, value)? != wants {
+            return Ok(false);
+        }
+    }
+    Ok(true)
+}
+
 #[test]
 fn a_value_of_the_other_kind_is_poison(rt: HostRuntime) -> Result<(), Fail> {
-    let rows = [
-        (Value::Poison, (Value::Poison, Value::Poison)),
-        (Value::Num(0), (Value::Num(0), Value::Poison)),
-        (Value::Num(7), (Value::Num(7), Value::Poison)),
-        (NULL, (Value::Poison, NULL)),
-        (to(1, 0), (Value::Poison, to(1, 0))),
-        (to(2, u64::MAX), (Value::Poison, to(2, u64::MAX))),
-    ];
     let mut terms = Terms::new(rt.alloc());
-    for &(value, wants) in &rows {
-        assert!(rt; used(rt.alloc(), &mut terms, value)? == wants);
-    }
-    Ok(())
+    expect(
+        are_used(rt.alloc(), &mut terms)?,
+        "a value of the other kind is poison",
+    )
 }
 
 #[test]
@@ -171,22 +200,35 @@ fn picked_value(
     value_in(alloc, terms, picked)
 }
 
+const VALUES: [Value; 6] = [
+    Value::Poison,
+    Value::Num(9),
+    NULL,
+    FIRST_AT_8,
+    SECOND_AT_8,
+    SECOND_AT_9,
+];
+
+/// Whether each choice between a value and another is the chosen one.
+fn are_picked(alloc: Global, terms: &mut Terms, a: Value) -> Result<bool, NoMemory> {
+    for &b in &VALUES {
+        let first = picked_value(alloc, terms, true, a, b)?;
+        let second = picked_value(alloc, terms, false, a, b)?;
+        if first != a || second != b {
+            return Ok(false);
+        }
+    }
+    Ok(true)
+}
+
 #[test]
 fn a_choice_has_the_kind_of_the_chosen_value(rt: HostRuntime) -> Result<(), Fail> {
-    let values = [
-        Value::Poison,
-        Value::Num(9),
-        NULL,
-        to(1, 8),
-        to(2, 8),
-        to(2, 9),
-    ];
     let mut terms = Terms::new(rt.alloc());
-    for &a in &values {
-        for &b in &values {
-            assert!(rt; picked_value(rt.alloc(), &mut terms, true, a, b)? == a);
-            assert!(rt; picked_value(rt.alloc(), &mut terms, false, a, b)? == b);
-        }
+    for &a in &VALUES {
+        expect(
+            are_picked(rt.alloc(), &mut terms, a)?,
+            "a choice has the kind of the value",
+        )?;
     }
     Ok(())
 }
@@ -250,10 +292,6 @@ fn byte_in(alloc: Global, terms: &Terms, b: SymByte) -> Result<Byte, NoMemory> {
     })
 }
 
-fn bits(number: u8, mask: u8) -> Byte {
-    Byte::Bits { number, mask }
-}
-
 /// The byte of the choice of the first or the second of two bytes.
 fn picked_byte(
     alloc: Global,
@@ -269,32 +307,61 @@ fn picked_byte(
     byte_in(alloc, terms, picked)
 }
 
+/// The first byte of a block.
+const START: Ptr = Ptr {
+    block: BlockName::Given(1),
+    offset: 0,
+};
+
+/// A byte of another block.
+const LATER: Ptr = Ptr {
+    block: BlockName::Given(2),
+    offset: 16,
+};
+
+const BYTES: [Byte; 8] = [
+    Byte::Bits {
+        number: 0,
+        mask: 255,
+    },
+    Byte::Bits { number: 0, mask: 0 },
+    Byte::Bits {
+        number: 255,
+        mask: 0,
+    },
+    Byte::Bits {
+        number: 240,
+        mask: 15,
+    },
+    Byte::Bits {
+        number: 1,
+        mask: 128,
+    },
+    Byte::Part(START, 0),
+    Byte::Part(START, 7),
+    Byte::Part(LATER, 7),
+];
+
+/// Whether each choice between a byte and another is the chosen one.
+fn are_picked_bytes(alloc: Global, terms: &mut Terms, a: Byte) -> Result<bool, NoMemory> {
+    for &b in &BYTES {
+        let first = picked_byte(alloc, terms, true, a, b)?;
+        let second = picked_byte(alloc, terms, false, a, b)?;
+        if first != a || second != b {
+            return Ok(false);
+        }
+    }
+    Ok(true)
+}
+
 #[test]
 fn a_choice_is_the_chosen_byte(rt: HostRuntime) -> Result<(), Fail> {
-    let start = Ptr {
-        block: BlockName::Given(1),
-        offset: 0,
-    };
-    let later = Ptr {
-        block: BlockName::Given(2),
-        offset: 16,
-    };
-    let bytes = [
-        bits(0, 255),
-        bits(0, 0),
-        bits(255, 0),
-        bits(240, 15),
-        bits(1, 128),
-        Byte::Part(start, 0),
-        Byte::Part(start, 7),
-        Byte::Part(later, 7),
-    ];
     let mut terms = Terms::new(rt.alloc());
-    for &a in &bytes {
-        for &b in &bytes {
-            assert!(rt; picked_byte(rt.alloc(), &mut terms, true, a, b)? == a);
-            assert!(rt; picked_byte(rt.alloc(), &mut terms, false, a, b)? == b);
-        }
+    for &a in &BYTES {
+        expect(
+            are_picked_bytes(rt.alloc(), &mut terms, a)?,
+            "a choice is the chosen byte",
+        )?;
     }
     Ok(())
 }

@@ -25,13 +25,22 @@ struct Place(bool, u8, u8, u64, u64, u8);
 #[derive(Clone, Copy)]
 struct Returned(bool, bool, u64, u64);
 
-/// A return with this value, which leaves the given block with this size and these two bytes.
+/// A return with this value, which leaves the given block with this size and two bytes of these
+/// letters.
 #[derive(Clone, Copy)]
 struct End {
     value: Returned,
     size: u64,
-    first: Place,
-    second: Place,
+    first: u8,
+    second: u8,
+}
+
+/// A row: the end of the source, that of the target, and whether the first covers the second.
+#[derive(Clone, Copy)]
+struct Ends {
+    source: End,
+    target: End,
+    is_covered: bool,
 }
 
 fn byte(terms: &mut Terms, place: Place) -> Result<SymByte, NoMemory>
@@ -70,24 +79,24 @@ fn value(terms: &mut Terms, returned: Returned) -> Result<SymValue, NoMemory>
     })
 }
 
-/// The bytes of the given block.
+/// The bytes of the given block, by their letters.
 fn places(
     alloc: Global,
     terms: &mut Terms,
-    first: Place,
-    second: Place,
+    first: u8,
+    second: u8,
 ) -> Result<Sequence<SymByte>, NoMemory>
     ensures made { IfOk result (AreSymBytes terms.new) }
     ensures count { IfOk result (λ bytes. length bytes ≡ 2) }
     ensures kept { Keeps terms.old terms.new }
 {
-    let first = byte(terms, first)?;
-    let second = byte(terms, second)?;
+    let first = byte(terms, lettered(first))?;
+    let second = byte(terms, lettered(second))?;
     Ok(Sequence::from_vec(Vec::from_array(alloc, [first, second])?))
 }
 
 /// The given block.
-fn block(alloc: Global, terms: &mut Terms, end: End) -> Result<SymBlock, NoMemory>
+fn block(alloc: Global, terms: &mut Terms, end: &End) -> Result<SymBlock, NoMemory>
     ensures made { IfOk result (IsSymBlock terms.new) }
     ensures always { IfOk result (IsAlways terms.new) }
     ensures frame { IfOk result (λ b. frame_of b ≡ record { number = 1; align = 16; room = 2 }) }
@@ -105,7 +114,7 @@ fn block(alloc: Global, terms: &mut Terms, end: End) -> Result<SymBlock, NoMemor
     })
 }
 
-fn outcome(alloc: Global, terms: &mut Terms, end: End) -> Result<OutcomeTerms, NoMemory>
+fn outcome(alloc: Global, terms: &mut Terms, end: &End) -> Result<OutcomeTerms, NoMemory>
     ensures made { IfOk result (IsOutcome terms.new) }
     ensures frames { IfOk result (λ o. map frame_of o.blocks ≡ record { number = 1; align = 16; room = 2 } ∷ []) }
     ensures kept { Keeps terms.old terms.new }
@@ -129,8 +138,8 @@ fn outcome(alloc: Global, terms: &mut Terms, end: End) -> Result<OutcomeTerms, N
 fn is_covered(
     alloc: Global,
     terms: &mut Terms,
-    source: End,
-    target: End,
+    source: &End,
+    target: &End,
 ) -> Result<bool, NoMemory> {
     let from = outcome(alloc, terms, source)?;
     let to = outcome(alloc, terms, target)?;
@@ -158,8 +167,8 @@ fn returns(value: Returned) -> End {
     End {
         value,
         size: 0,
-        first: lettered(b'p'),
-        second: lettered(b'p'),
+        first: b'p',
+        second: b'p',
     }
 }
 
@@ -209,8 +218,8 @@ fn left_in(text: &str) -> Option<(End, &str)> {
     let end = End {
         value: Returned(false, false, 0, 5),
         size: size.parse::<u64>().ok()?,
-        first: lettered(*first),
-        second: lettered(*second),
+        first: *first,
+        second: *second,
     };
     Some((end, rest))
 }
@@ -240,28 +249,40 @@ const LEFT_PAIRS: &str = "\
 1 h2 1 a2 no
 1 p2 1 a2 yes";
 
-/// The ends of a row, and whether the first covers the second.
-fn returns_in(row: &str) -> Option<(End, End, bool)> {
+/// The row of ends that return these values.
+fn returns_in(row: &str) -> Option<Ends> {
     let (source, rest) = returned_in(row)?;
     let (target, want) = returned_in(rest)?;
-    Some((returns(source), returns(target), want == "yes"))
+    Some(Ends {
+        source: returns(source),
+        target: returns(target),
+        is_covered: want == "yes",
+    })
 }
 
-fn leaves_in(row: &str) -> Option<(End, End, bool)> {
+/// The row of ends that leave these blocks.
+fn leaves_in(row: &str) -> Option<Ends> {
     let (source, rest) = left_in(row)?;
     let (target, want) = left_in(rest)?;
-    Some((source, target, want == "yes"))
+    Some(Ends {
+        source,
+        target,
+        is_covered: want == "yes",
+    })
+}
+
+/// Fails where a row has no ends, or does not say whether the first covers the second.
+fn is_right(alloc: Global, terms: &mut Terms, row: &str, ends: Option<Ends>) -> Result<(), Fail> {
+    let ends = ends.ok_or("a row")?;
+    let found = is_covered(alloc, terms, &ends.source, &ends.target)?;
+    expect(found == ends.is_covered, row)
 }
 
 #[test]
 fn returned_pointers(rt: HostRuntime) -> Result<(), Fail> {
     let mut terms = Terms::new(rt.alloc());
     for row in RETURNED_PAIRS.lines() {
-        let (source, target, want) = returns_in(row).ok_or("a row")?;
-        expect(
-            is_covered(rt.alloc(), &mut terms, source, target)? == want,
-            row,
-        )?;
+        is_right(rt.alloc(), &mut terms, row, returns_in(row))?;
     }
     Ok(())
 }
@@ -270,11 +291,7 @@ fn returned_pointers(rt: HostRuntime) -> Result<(), Fail> {
 fn left_blocks(rt: HostRuntime) -> Result<(), Fail> {
     let mut terms = Terms::new(rt.alloc());
     for row in LEFT_PAIRS.lines() {
-        let (source, target, want) = leaves_in(row).ok_or("a row")?;
-        expect(
-            is_covered(rt.alloc(), &mut terms, source, target)? == want,
-            row,
-        )?;
+        is_right(rt.alloc(), &mut terms, row, leaves_in(row))?;
     }
     Ok(())
 }

@@ -113,15 +113,26 @@ fn is_refuted(rt: &(impl Threads + Sync), alloc: Global, asked: &Asked) -> bool 
     }
 }
 
+/// Whether the answer within no limit is that there are no seats.
+fn has_no_seats(rt: &(impl Threads + Sync), alloc: Global) -> Result<bool, NoMemory> {
+    let asked = seats(alloc, None)?;
+    Ok(is_refuted(rt, alloc, &asked))
+}
+
+/// Whether the answer within a limit of 1 is one learned clause, or that there are no seats.
+fn is_spent_or_has_no_seats(rt: &(impl Threads + Sync), alloc: Global) -> Result<bool, NoMemory> {
+    let asked = seats(alloc, Some(1))?;
+    Ok(is_spent(&asked, 1) || is_refuted(rt, alloc, &asked))
+}
+
 /// Four pigeons have no seats in three holes. With a limit of 1 that is found, or one clause is
 /// learned.
 #[test]
 fn four_pigeons_have_no_seats(rt: HostRuntime) -> Result<(), Fail> {
     let alloc = rt.alloc();
-    assert!(rt; is_refuted(&rt, alloc, &seats(alloc, None)?));
-    let asked = seats(alloc, Some(1))?;
+    assert!(rt; has_no_seats(&rt, alloc)?);
     expect(
-        is_spent(&asked, 1) || is_refuted(&rt, alloc, &asked),
+        is_spent_or_has_no_seats(&rt, alloc)?,
         "none, or the limit is spent",
     )
 }

@@ -1,6 +1,7 @@
 //! The solvers on small clauses.
 
 use crate::clauses::{clause, cnf, pigeons};
+use crate::expecting::expect;
 use clause_lits::Cnf;
 use clause_log::{Step, check_log};
 use clause_search::Answer;
@@ -10,7 +11,7 @@ use std::thread::Threads;
 use support::NoMemory;
 
 /// The two solvers of one contract.
-#[derive(Clone, Copy, Debug)]
+#[derive(Clone, Copy)]
 enum Solver {
     Clauses,
     Watches,
@@ -64,37 +65,60 @@ pub fn is_model(answer: &Answer, values: &[bool]) -> bool {
     }
 }
 
+/// Whether both solvers find this model.
+fn find(alloc: Global, cnf: &Cnf, limit: u64, values: &[bool]) -> Result<bool, NoMemory> {
+    for solver in SOLVERS {
+        if !is_model(&solved(alloc, solver, cnf, limit)?, values) {
+            return Ok(false);
+        }
+    }
+    Ok(true)
+}
+
+/// Whether both solvers refute the clauses by these learned clauses.
+fn refute_by(alloc: Global, cnf: &Cnf, limit: u64, rows: &[&[i64]]) -> Result<bool, NoMemory> {
+    for solver in SOLVERS {
+        let answer = solved(alloc, solver, cnf, limit)?;
+        if !is_refuted_by(alloc, &answer, rows)? {
+            return Ok(false);
+        }
+    }
+    Ok(true)
+}
+
+/// Whether both solvers spend a limit of 1 on these learned clauses.
+fn spend_on(alloc: Global, cnf: &Cnf, rows: &[&[i64]]) -> Result<bool, NoMemory> {
+    for solver in SOLVERS {
+        let answer = solved(alloc, solver, cnf, 1)?;
+        if !is_spent_on(alloc, &answer, rows)? {
+            return Ok(false);
+        }
+    }
+    Ok(true)
+}
+
 /// Of the models of `1 2` the least on 1 and 2 is 0 1.
 #[test]
 fn the_least_model_is_found(rt: HostRuntime) -> Result<(), Fail> {
     let clauses = cnf(rt.alloc(), 2, 2, &[&[1, 2]])?;
-    for solver in SOLVERS {
-        let answer = solved(rt.alloc(), solver, &clauses, 1)?;
-        assert!(rt; is_model(&answer, &[false, true]));
-    }
-    Ok(())
+    expect(find(rt.alloc(), &clauses, 1, &[false, true])?, "0 1")
 }
 
 /// No clauses over no variables have the empty model.
 #[test]
 fn no_clauses_have_the_empty_model(rt: HostRuntime) -> Result<(), Fail> {
     let clauses = cnf(rt.alloc(), 0, 0, &[])?;
-    for solver in SOLVERS {
-        let answer = solved(rt.alloc(), solver, &clauses, 0)?;
-        assert!(rt; is_model(&answer, &[]));
-    }
-    Ok(())
+    expect(find(rt.alloc(), &clauses, 0, &[])?, "the empty model")
 }
 
 /// The empty clause is refuted by one step.
 #[test]
 fn the_empty_clause_is_refuted(rt: HostRuntime) -> Result<(), Fail> {
     let clauses = cnf(rt.alloc(), 0, 0, &[&[]])?;
-    for solver in SOLVERS {
-        let answer = solved(rt.alloc(), solver, &clauses, 0)?;
-        assert!(rt; is_refuted_by(rt.alloc(), &answer, &[&[]])?);
-    }
-    Ok(())
+    expect(
+        refute_by(rt.alloc(), &clauses, 0, &[&[]])?,
+        "the empty clause",
+    )
 }
 
 /// Three pigeons in two holes are refuted by one learned clause and the empty one, though the limit
@@ -102,11 +126,10 @@ fn the_empty_clause_is_refuted(rt: HostRuntime) -> Result<(), Fail> {
 #[test]
 fn three_pigeons_in_two_holes(rt: HostRuntime) -> Result<(), Fail> {
     let clauses = pigeons(rt.alloc(), 3, 2)?;
-    for solver in SOLVERS {
-        let answer = solved(rt.alloc(), solver, &clauses, 1)?;
-        assert!(rt; is_refuted_by(rt.alloc(), &answer, &[&[-2], &[]])?);
-    }
-    Ok(())
+    expect(
+        refute_by(rt.alloc(), &clauses, 1, &[&[-2], &[]])?,
+        "-2 and the empty clause",
+    )
 }
 
 /// Four pigeons in four holes: the least model has the first pigeon in the last hole, the second in
@@ -119,47 +142,68 @@ pub const FOUR: [bool; 16] = [
 #[test]
 fn four_pigeons_in_four_holes(rt: HostRuntime) -> Result<(), Fail> {
     let clauses = pigeons(rt.alloc(), 4, 4)?;
-    for solver in SOLVERS {
-        let answer = solved(rt.alloc(), solver, &clauses, 0)?;
-        assert!(rt; is_model(&answer, &FOUR));
-    }
-    Ok(())
+    expect(
+        find(rt.alloc(), &clauses, 0, &FOUR)?,
+        "four pigeons in four holes",
+    )
 }
 
-/// Whether a limit of one learned clause is spent, and without a limit the clauses are refuted by a
-/// log that the checker accepts.
-fn are_refuted(
+/// Whether a limit of one learned clause is spent.
+fn is_spent(alloc: Global, solver: Solver, clauses: &Cnf) -> Result<bool, NoMemory> {
+    match solved(alloc, solver, clauses, 1)? {
+        Answer::Spent(_) => Ok(true),
+        Answer::Sat(_) | Answer::Unsat(_) => Ok(false),
+    }
+}
+
+/// Whether without a limit the clauses are refuted by a log that the checker accepts.
+fn is_refuted(
     rt: &(impl Threads + Sync),
     alloc: Global,
     solver: Solver,
     clauses: &Cnf,
 ) -> Result<bool, NoMemory> {
-    let spent = solved(alloc, solver, clauses, 1)?;
     match solved(alloc, solver, clauses, 0)? {
-        Answer::Unsat(log) => Ok(
-            matches!(spent, Answer::Spent(_)) && check_log(rt, alloc, clauses, &log).is_ok(),
-        ),
+        Answer::Unsat(log) => Ok(check_log(rt, alloc, clauses, &log).is_ok()),
         Answer::Sat(_) | Answer::Spent(_) => Ok(false),
     }
+}
+
+/// Whether both solvers spend a limit of one learned clause, and without a limit refute the clauses
+/// by a log that the checker accepts.
+fn refute(rt: &(impl Threads + Sync), alloc: Global, clauses: &Cnf) -> Result<bool, NoMemory> {
+    for solver in SOLVERS {
+        if !is_spent(alloc, solver, clauses)? || !is_refuted(rt, alloc, solver, clauses)? {
+            return Ok(false);
+        }
+    }
+    Ok(true)
 }
 
 #[test]
 fn five_pigeons_in_four_holes(rt: HostRuntime) -> Result<(), Fail> {
     let clauses = pigeons(rt.alloc(), 5, 4)?;
-    for solver in SOLVERS {
-        assert!(rt; are_refuted(&rt, rt.alloc(), solver, &clauses)?);
-    }
-    Ok(())
+    expect(
+        refute(&rt, rt.alloc(), &clauses)?,
+        "five pigeons in four holes",
+    )
+}
+
+/// Whether both solvers learn `-5 9 12` first, and refute the clauses.
+fn learn_and_refute(
+    rt: &(impl Threads + Sync),
+    alloc: Global,
+    clauses: &Cnf,
+) -> Result<bool, NoMemory> {
+    Ok(spend_on(alloc, clauses, &[&[-5, 9, 12]])? && refute(rt, alloc, clauses)?)
 }
 
 /// Four pigeons in three holes: the first clause that is learned is `-5 9 12`.
 #[test]
 fn four_pigeons_in_three_holes(rt: HostRuntime) -> Result<(), Fail> {
     let clauses = pigeons(rt.alloc(), 4, 3)?;
-    for solver in SOLVERS {
-        let answer = solved(rt.alloc(), solver, &clauses, 1)?;
-        assert!(rt; is_spent_on(rt.alloc(), &answer, &[&[-5, 9, 12]])?);
-        assert!(rt; are_refuted(&rt, rt.alloc(), solver, &clauses)?);
-    }
-    Ok(())
+    expect(
+        learn_and_refute(&rt, rt.alloc(), &clauses)?,
+        "four pigeons in three holes",
+    )
 }

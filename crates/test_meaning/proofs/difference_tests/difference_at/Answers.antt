@@ -1,5 +1,5 @@
 use Rattle.test_meaning.proofs.Accepted.{judgeable_lowered}
-use Rattle.test_meaning.proofs.difference_tests.difference.Goals as goal
+use Rattle.test_meaning.proofs.difference_tests.difference_at.Goals as goal
 
 pub trace_pair-requires-clause-source : goal.trace_pair-requires-clause-source
 trace_pair-requires-clause-source c = judgeable_lowered c.args.pair.now.source c.requires.source
