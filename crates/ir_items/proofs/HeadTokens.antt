@@ -96,7 +96,7 @@ word_kind : (k : Kind) (text word : List ℕ) → is_word_of k text word ≡ tru
 word_kind kind.Word text word h = (refl, h)
 word_kind _ text word h = absurd (cc)
 
-layout_word_begins_nothing : (tokens : List Lexeme) (place : ℕ) → token_passes tokens (is_word (codes "datalayout")) place ≡ true → begins_item tokens place ≡ false
+pub layout_word_begins_nothing : (tokens : List Lexeme) (place : ℕ) → token_passes tokens (is_word (codes "datalayout")) place ≡ true → begins_item tokens place ≡ false
 unfolding begins_item is_head
 layout_word_begins_nothing tokens place h = go (slice_get tokens place) refl h
   where
@@ -150,6 +150,18 @@ string_plain kind.String [] h = refl
 string_plain kind.Local text h = absurd (cc)
 string_plain kind.Global text h = absurd (cc)
 string_plain _ text h = absurd (cc)
+
+pub string_begins_nothing : (tokens : List Lexeme) (place : ℕ) → token_passes tokens has_bad_layout place ≡ true → begins_item tokens place ≡ false
+unfolding begins_item is_head
+string_begins_nothing tokens place h = go (slice_get tokens place) refl h
+  where
+    no_head : (t : Lexeme) (k : Kind) (text : List ℕ) → t.kind ≡ k → is_plain_string k text ≡ true → (is_head_word t ≡ false) × (is_name t ≡ false)
+    no_head t kind.String text is p = (rw is refl, rw is refl)
+    no_head t _ text is p = absurd (cc)
+
+    go : (o : Option Lexeme) → slice_get tokens place ≡ o → passes has_bad_layout o ≡ true → begins_item tokens place ≡ false
+    go None here p = absurd (cc)
+    go (Some t) here p = let e = no_head t t.kind t.text refl (and_parts _ _ p).0 in rw (here, e.0, e.1) refl
 
 layout_quiet : (t : Lexeme) → has_bad_layout t ≡ true → marks_after (Some []) (mark_of t) ≡ Some []
 layout_quiet t h = rw (string_plain t.kind t.text (and_parts _ _ h).0) refl

@@ -7,3 +7,4 @@ pub mod Phases
 pub mod Ends
 pub mod OneStop
 pub mod OneCut
+pub mod Joined

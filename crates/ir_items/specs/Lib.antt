@@ -3,3 +3,4 @@ pub mod Marks
 pub mod Items
 pub mod Stops
 pub mod Pieces
+pub mod Joined

@@ -132,7 +132,8 @@ pub fn is_brace(tokens: &Tokens<'_>, place: usize) -> bool
     is_mark_at(tokens, place, b'{')
 }
 
-fn line_feeds(text: &[u8]) -> usize
+/// The number of line feeds in some bytes.
+pub fn line_feeds(text: &[u8]) -> usize
     ensures { result ≡ count_by is_line_feed text.now }
 {
     text.iter().filter(|b| **b == b'\n').count()

@@ -6,6 +6,7 @@
 #![tactic(auto)]
 
 mod cutting;
+mod edges;
 mod fault;
 mod heads;
 mod item;
@@ -14,6 +15,7 @@ mod marks;
 mod names;
 
 pub use cutting::{MOST_FUNCTIONS, cut, is_one_cut};
+pub use edges::{Edges, do_meet, edges_of, joined_edges};
 pub use fault::{ItemFault, Why};
 pub use item::Define;
 pub use names::{name_before_colon, name_behind_sign, name_of};

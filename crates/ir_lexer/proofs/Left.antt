@@ -1,12 +1,12 @@
 -- The tokens of a part that a loop has kept, and those that are left.
-use Rattle.ir_lexer.proofs.Common.{◌≡◌, ℕ, ◌≤◌, List, [], ◌∷◌, ◌++◌, length, drop, map, Result, Ok, Err, refl, sym, ap, subst, ◌∙◌, arith, append_assoc, length-drop, All, append-nil, map-append, Mark, LexFault, NoToken, NoMemory, Fails, Stops, Lexeme, IsMark, lexeme_of, mark_of, Position, tokens_left, bytes_before, IsWithin, IsToken, Reads, Spot, with_front}
-use Rattle.std.proofs.lemmas.List.Elements.{All-nil, All-push, All-append}
+use Rattle.ir_lexer.proofs.Common.{◌≡◌, ℕ, ◌≤◌, List, [], ◌∷◌, ◌++◌, length, drop, map, Result, Ok, Err, refl, sym, ap, subst, ◌∙◌, arith, append_assoc, length-drop, append-nil, map-append, Mark, LexFault, NoToken, NoMemory, Fails, Stops, Lexeme, IsMark, lexeme_of, mark_of, Position, tokens_left, bytes_before, IsWithin, IsToken, Reads, Spot, with_front}
+use Rattle.std.proofs.lemmas.List.Elements.{All-nil, All-push}
 use Rattle.ir_lexer.proofs.Kept.{Bounds, bounds, lexeme-mark, is_mark}
 use Rattle.ir_lexer.proofs.Next.{left-token, left-nil, reads-next}
 use Rattle.ir_lexer.specs.Part.{IsPart}
 use Rattle.ir_lexer.specs.Position.{behind}
 
-front-front : (xs ys : List Lexeme) (r : Result (List Lexeme) Spot) → with_front xs (with_front ys r) ≡ with_front (xs ++ ys) r
+pub front-front : (xs ys : List Lexeme) (r : Result (List Lexeme) Spot) → with_front xs (with_front ys r) ≡ with_front (xs ++ ys) r
 front-front xs ys (Ok zs) = rw append_assoc refl
 front-front xs ys (Err spot) = refl
 
@@ -41,26 +41,6 @@ stops-fails front left whole NoMemory so_far is = tt
 pub fails : (start p new : Position) (marks : List Mark) (fault : LexFault) → Reads p (Err fault) new → IsPart start marks p → Fails fault (tokens_left start)
 fails start p new marks fault reads left =
     stops-fails (map (lexeme_of start.text) marks) (tokens_left p) (tokens_left start) fault left.whole (reads-next p (Err fault) new reads).0
-
--- a part, and the one after it
-pub both : (start mid end : Position) (front back : List Mark) → IsPart start front mid → IsPart mid back end → IsPart start (front ++ back) end
-both start mid end front back a b =
-    let text = start.text in
-    let after : with_front (map (lexeme_of text) back) (tokens_left end) ≡ tokens_left mid = subst (λ (xs : List ℕ). with_front (map (lexeme_of xs) back) (tokens_left end) ≡ tokens_left mid) a.same b.whole in
-    record {
-      same = b.same ∙ a.same;
-      each = All-append (IsMark text) front back a.each (subst (λ (xs : List ℕ). All (IsMark xs) back) a.same b.each);
-      whole = ap (λ (xs : List Lexeme). with_front xs (tokens_left end)) (map-append (lexeme_of text) front back)
-          ∙ sym (front-front (map (lexeme_of text) front) (map (lexeme_of text) back) (tokens_left end)) ∙ ap (with_front (map (lexeme_of text) front)) after ∙ a.whole;
-    }
-
-then-fails : (front : List Lexeme) (left whole : Result (List Lexeme) Spot) (fault : LexFault) → with_front front left ≡ whole → Fails fault left → Fails fault whole
-then-fails front left whole (NoToken at place) so_far is = sym so_far ∙ ap (with_front front) is
-then-fails front left whole NoMemory so_far is = tt
-
--- a part, and no token after it
-pub later-fails : (start mid : Position) (front : List Mark) (fault : LexFault) → IsPart start front mid → Fails fault (tokens_left mid) → Fails fault (tokens_left start)
-later-fails start mid front fault a is = then-fails (map (lexeme_of start.text) front) (tokens_left mid) (tokens_left start) fault a.whole is
 
 -- a position is that of its offset
 pub at-offset : (start p : Position) → p.text ≡ start.text → IsWithin p → p ≡ behind start (bytes_before p)

@@ -1,8 +1,9 @@
 -- Tokens without a line feed, and the position behind bytes without one.
-use Rattle.ir_lexer.proofs.Common.{◌≡◌, ℕ, suc, ◌+◌, ◌-◌, ◌<◌, ◌≤◌, true, false, cond, eqb, List, [], ◌∷◌, ◌++◌, length, take, get_or, Some, None, refl, sym, ap, ◌∙◌, inl, inr, arith, cases_Bool, lt-ltb, length-drop, append_assoc, append-nil, is_name_byte, begins_name, is_lone_mark, behind, name_run, word_or_label, longer, front_token, after_named, after_plain_name, Place, place_behind, longest_token, Kind}
+use Rattle.ir_lexer.proofs.Common.{◌≡◌, ℕ, suc, ◌+◌, ◌-◌, ◌<◌, ◌≤◌, true, false, cond, eqb, List, [], ◌∷◌, ◌++◌, length, take, drop, get_or, Some, None, refl, sym, ap, ◌∙◌, inl, inr, arith, cases_Bool, lt-ltb, length-drop, take-append-drop, append_assoc, append-nil, is_name_byte, begins_name, is_lone_mark, behind, name_run, word_or_label, longer, front_token, after_named, after_plain_name, Place, place_behind, place_at, longest_token, Kind}
 use Rattle.std.specs.Prelude.{count_by}
 use Rattle.std.proofs.lemmas.Bool.Decides.{nat_tests}
-use Rattle.std.proofs.lemmas.List.Sums.{sum_by-cons}
+use Rattle.std.proofs.lemmas.List.{length-take-le, take-take, drop-take}
+use Rattle.std.proofs.lemmas.List.Sums.{sum_by-cons, sum_by-append}
 use Rattle.std.proofs.Common.{add-zero}
 use Rattle.text_places.specs.Place.{is_line_feed}
 use Rattle.text_places.proofs.Moves.{moved, one_more}
@@ -117,3 +118,24 @@ further-on (b ∷ bs) before h =
     let o = no_feed b (count_by is_line_feed bs) (sym (feeds-cons b bs) ∙ h) in
     let one : place_behind (before ++ b ∷ []) ≡ further (place_behind before) 1 = sym (push before b) ∙ rw o.0 refl in
     ap place_behind (sym (append_assoc before (b ∷ []) bs)) ∙ further-on bs (before ++ b ∷ []) o.1 ∙ ap (λ (p : Place). further p (length bs)) one ∙ twice (place_behind before) (length bs)
+
+-- two offsets on one line have columns that differ as they do
+pub column-on : (text : List ℕ) (at to : ℕ) → at ≤ to → to ≤ length text → (place_at text at).line ≡ (place_at text to).line → (place_at text to).column ≡ (place_at text at).column + (to - at)
+unfolding place_behind
+column-on text at to order within same =
+    let between = take (to - at) (drop at text) in
+    let len : length between ≡ to - at = length-take-le (to - at) (drop at text) (omega (arith, length-drop at text)) in
+    let split : take to text ≡ take at text ++ between = take-upto text at to order in
+    let feeds : count_by is_line_feed (take to text) ≡ count_by is_line_feed (take at text) + count_by is_line_feed between =
+    ap (count_by is_line_feed) split ∙ sum_by-append (λ b. cond (is_line_feed b) 1 0) (take at text) between in
+    let on : place_behind (take at text ++ between) ≡ further (place_behind (take at text)) (length between) = further-on between (take at text) (omega (arith, feeds, same)) in
+    ap (λ (xs : List ℕ). (place_behind xs).column) split ∙ ap (λ (p : Place). p.column) on ∙ ap (λ (n : ℕ). (place_at text at).column + n) len
+  where
+    take-upto : (xs : List ℕ) (at to : ℕ) → at ≤ to → take to xs ≡ take at xs ++ take (to - at) (drop at xs)
+    take-upto xs at to h =
+        let sum : to ≡ at + (to - at) = omega (arith, h) in
+        let back : drop at (take to xs) ≡ take (to - at) (drop at xs) = ap (λ (n : ℕ). drop at (take n xs)) sum ∙ drop-take at (to - at) xs in
+        sym (take-append-drop at (take to xs)) ∙ ap (λ (ys : List ℕ). ys ++ drop at (take to xs)) (take-take at to xs h) ∙ ap (λ (ys : List ℕ). take at xs ++ ys) back
+
+pub place-is : (place : Place) (line column : ℕ) → line ≡ place.line → column ≡ place.column → record { line = line; column = column } ≡ place
+place-is place line column l c = rw (l, c) refl

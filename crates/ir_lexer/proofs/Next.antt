@@ -3,7 +3,7 @@ use Rattle.ir_lexer.proofs.Common.{◌≡◌, ℕ, ◌-◌, ◌<◌, false, List
 use Rattle.ir_lexer.proofs.Behind.{blanks-within}
 use Rattle.ir_lexer.proofs.Fuel.{steps-enough, found-bounds, after-shorter}
 
-lexeme_is : (t : Lexeme) (kind : Kind) (text : List ℕ) (at : ℕ) (place : Place) → t.kind ≡ kind → t.text ≡ text → t.at ≡ at → t.place ≡ place → record { kind = kind; text = text; at = at; place = place } ≡ t
+pub lexeme_is : (t : Lexeme) (kind : Kind) (text : List ℕ) (at : ℕ) (place : Place) → t.kind ≡ kind → t.text ≡ text → t.at ≡ at → t.place ≡ place → record { kind = kind; text = text; at = at; place = place } ≡ t
 lexeme_is t kind text at place k x a p = rw (← k, ← x, ← a, ← p) refl
 
 -- the tokens of what is left, where one was found at its start

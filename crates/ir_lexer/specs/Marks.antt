@@ -1,5 +1,7 @@
 -- A token of a text in few bytes: where it begins, and how long it is.
 use Rattle.std.specs.Prelude.{◌≡◌, ◌≤◌, ◌+◌, ℕ, List, length, take, drop}
+use Rattle.std.specs.List.{All}
+use Rattle.text_places.specs.declared.place.Place.{Place}
 use Rattle.text_places.specs.Place.{place_at}
 use Rattle.ir_lexer.specs.declared.mark.Mark.{Mark}
 use Rattle.ir_lexer.specs.Lexeme.{Lexeme}
@@ -16,3 +18,8 @@ lexeme_of text m = record { kind = m.kind; text = take m.len (drop m.at text); a
 pub record IsMark (text : List ℕ) (m : Mark) : Type 0 where
   pub within : m.at + m.len ≤ length text
   pub line_is : m.line ≡ (place_at text m.at).line
+
+-- marks of a text, and the position of an offset in it
+pub record IsWalk (text : List ℕ) (marks : List Mark) (at : ℕ) (place : Place) : Type 0 where
+  pub are : All (IsMark text) marks
+  pub stands : place ≡ place_at text at

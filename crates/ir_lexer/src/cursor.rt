@@ -8,6 +8,7 @@ use crate::blanks::blanks;
 use crate::lexing::LexFault;
 use crate::scan::{first_token, plain_token, run_at_front};
 use crate::token::{Kind, Token};
+use memchr::memchr_iter;
 use std::marker::Model;
 use text_places::Place;
 
@@ -15,11 +16,11 @@ use text_places::Place;
 fn line_feeds(bytes: &[u8]) -> u64
     ensures { result ≡ count_by is_line_feed bytes.now }
 {
-    bytes.iter().filter(|b| **b == b'\n').count() as u64
+    memchr_iter(b'\n', bytes).count() as u64
 }
 
-// The column of what follows some bytes, which begin a text.
-fn column_behind(bytes: &[u8]) -> u64
+/// The column of what follows some bytes, which begin a text.
+pub fn column_behind(bytes: &[u8]) -> u64
     ensures { result ≡ (place_behind bytes.now).column }
 {
     let mut start = bytes.len();
@@ -137,18 +138,6 @@ impl<'a> Cursor<'a> {
         Ok(Some(token))
     }
 
-    /// A cursor at the same position.
-    pub fn again(&self) -> Cursor<'a>
-        ensures { result ≡ self.now }
-    {
-        Cursor {
-            text: self.text,
-            rest: self.rest,
-            place: self.place,
-            run: self.run,
-        }
-    }
-
     /// Before the token at this offset of a text, which is on this line.
     pub fn at(text: &'a [u8], at: usize, line: u64) -> Cursor<'a>
         requires within { at ≤ length text.now }
@@ -163,15 +152,6 @@ impl<'a> Cursor<'a> {
             place: Place { line, column },
             run: 0,
         }
-    }
-
-    /// How many bytes are left up to the first line feed from a number of bytes on, with the line feed.
-    pub fn line_end(&self, count: usize) -> usize
-        ensures { result ≤ length self.now.rest }
-    {
-        let (skipped, others) = self.rest.split_at(count.min(self.rest.len()));
-        let len = others.iter().take_while(|b| **b != b'\n').count();
-        self.rest.len().min((skipped.len() + len).saturating_add(1))
     }
 
     /// After this many bytes more, and the blanks there. It reads no token.

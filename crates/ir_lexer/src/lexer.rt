@@ -6,7 +6,6 @@ ghost use Rattle.ir_lexer.specs.Answer.{IsNext};
 use crate::cursor::Cursor;
 use crate::lexing::LexFault;
 use crate::token::Token;
-use crate::tokens::Tokens;
 use std::alloc::Global;
 use std::marker::Model;
 use support::{NoMemory, Sequence};
@@ -76,26 +75,6 @@ impl<'a> Lexer<'a> {
     {
         for _ in 0..count {
             let _ = self.next();
-        }
-    }
-
-    /// A lexer with the same tokens left.
-    pub fn again(&self) -> Lexer<'a>
-        ensures { result ≡ self.now }
-    {
-        Lexer {
-            cursor: self.cursor.again(),
-        }
-    }
-
-    /// A lexer before the token at an index, counted from 0, of the tokens of a text. It reads no token.
-    pub fn at(text: &'a [u8], tokens: &Tokens<'_>, index: usize) -> Lexer<'a>
-        requires tokens { lexed text.now ≡ Ok tokens.now }
-        requires within { index < length tokens.now }
-        ensures { result ≡ Ok (drop index tokens.now) }
-    {
-        Lexer {
-            cursor: Cursor::at(text, tokens.at(index), tokens.line(index)),
         }
     }
 }

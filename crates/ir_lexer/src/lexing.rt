@@ -4,7 +4,7 @@ ghost use Rattle.ir_lexer.specs.Answer.{Gives};
 ghost use Rattle.ir_lexer.specs.declared.lexing.LexFault.TheVariants.{NoMemory};
 
 use crate::cursor::Cursor;
-use crate::part::part_until;
+use crate::marking::part_until;
 use crate::tokens::Tokens;
 use std::alloc::{AllocError, AllocFailed, Global};
 use text_places::Place;

@@ -1,50 +1,80 @@
-// The tokens of a part of a text.
-ghost use Rattle.std.specs.Prelude.{◌≡◌, ◌≤◌, ◌<◌, ◌^◌, ◌++◌, length, IfOk};
-ghost use Rattle.ir_lexer.specs.Part.{Finds};
+ghost use Rattle.std.specs.Prelude.{◌≡◌, ◌+◌, ◌≤◌, length, IfOk, IfErr};
+ghost use Rattle.ir_lexer.specs.Answer.{Fails};
+ghost use Rattle.ir_lexer.specs.Position.{start_of, tokens_left};
+ghost use Rattle.ir_lexer.specs.Part.{AreBetween, IsStart, position};
 
 use crate::cursor::Cursor;
 use crate::lexing::LexFault;
-use crate::mark::Mark;
-use std::alloc::{AllocError, Global};
+use crate::marking::{Marking, part_until};
+use crate::tokens::Tokens;
+use std::alloc::Global;
 
-/// The tokens of a part of a text, and the offset of the position after them.
+/// Where a part of a text begins: the number of bytes before it, and its line.
+#[derive(Clone, Copy)]
+pub struct Start {
+    pub at: usize,
+    pub line: u64,
+}
+
+impl Start {
+    /// Before the first token of a text.
+    pub fn first(text: &[u8]) -> Start
+        ensures start { IsStart text.now result }
+        ensures first { position text.now result.at ≡ start_of text.now }
+    {
+        Start::of(&Cursor::new(text))
+    }
+
+    /// Before the first token that is this many bytes or more after a start. It reads none of those
+    /// that it passes: where the bytes end inside a string or a comment, what follows may be no token
+    /// of the text.
+    pub fn later(self, text: &[u8], len: usize) -> Start
+        requires start { IsStart text.now self }
+        requires within { self.at + len ≤ length text.now }
+        ensures { IsStart text.now result }
+    {
+        Start::of(&Cursor::at(text, self.at, self.line).skip(len))
+    }
+
+    // Where a cursor is.
+    fn of(cursor: &Cursor<'_>) -> Start
+        ensures start { IsStart cursor.now.text result }
+        ensures position { cursor.now ≡ position cursor.now.text result.at }
+    {
+        Start {
+            at: cursor.offset(),
+            line: cursor.line(),
+        }
+    }
+}
+
+/// The tokens of a part of a text, and the number of bytes before what follows them.
 #[derive(Drop)]
-pub struct Part {
-    pub marks: Vec<Mark>,
+pub struct Part<'a> {
+    pub tokens: Tokens<'a>,
     pub after: usize,
 }
 
-/// The tokens from a position on that begin before an offset.
-pub fn part_until(alloc: Global, start: Cursor<'_>, end: usize) -> Result<Part, LexFault>
-    requires end { end ≤ length start.text }
-    requires small { length start.text < 2 ^ 32 }
-    ensures { Finds start.entry end result }
+/// The tokens from a start on that begin before an offset.
+///
+/// `NoToken` is returned where no token begins, as by [`lex`](crate::lex). `NoMemory` is also
+/// returned for a text of 2^32 bytes or more.
+pub fn lex_part<'a>(
+    alloc: Global,
+    text: &'a [u8],
+    start: Start,
+    end: usize,
+) -> Result<Part<'a>, LexFault>
+    requires start { IsStart text.now start }
+    requires end { end ≤ length text.now }
+    ensures part { IfOk result (λ part. AreBetween text.now start.at part.after part.tokens) }
+    ensures fault { IfErr result (λ fault. Fails fault (tokens_left (position text.now start.at))) }
 {
-    let mut marks = Vec::new(alloc);
-    let mut cursor = start;
-    while cursor.offset() < end {
-        let Some(token) = cursor.next()? else {
-            break;
-        };
-        marks.push(Mark::of(&token))?;
+    if text.len() > u32::MAX as usize {
+        return Err(LexFault::NoMemory);
     }
-    let after = cursor.offset();
-    Ok(Part { marks, after })
-}
-
-/// A part and the one that begins where it ends.
-pub fn joined(front: Part, back: Part) -> Result<Part, AllocError>
-    ensures marks { IfOk result (λ part. part.marks.items ≡ front.marks.items ++ back.marks.items) }
-    ensures after { IfOk result (λ part. part.after ≡ back.after) }
-{
-    let Part {
-        mut marks,
-        after: _,
-    } = front;
-    let Part {
-        marks: mut more,
-        after,
-    } = back;
-    marks.append(&mut more)?;
-    Ok(Part { marks, after })
+    let cursor = Cursor::at(text, start.at, start.line);
+    let Marking { marks, after } = part_until(alloc, cursor, end)?;
+    let tokens = Tokens::new(text, marks);
+    Ok(Part { tokens, after })
 }

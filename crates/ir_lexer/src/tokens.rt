@@ -1,8 +1,10 @@
 ghost use Rattle.std.specs.Prelude.{◌≡◌, ◌<◌, length, map, slice_get, IsSomeAnd};
 ghost use Rattle.std.specs.List.{All};
+ghost use Rattle.ir_lexer.specs.Marks.{IsMark, lexeme_of};
 
 use crate::mark::Mark;
 use crate::token::Kind;
+use crate::walk::Walk;
 use std::marker::Model;
 
 /// The tokens of a text, in 16 bytes each. Contracts see them as a list.
@@ -26,8 +28,6 @@ impl<'a> Model for Tokens<'a> {
 }
 
 impl<'a> Tokens<'a> {
-    ghost use Rattle.ir_lexer.specs.Marks.{IsMark, lexeme_of};
-
     /// The tokens of a text that these marks denote. It takes no memory.
     pub(crate) fn new(text: &'a [u8], marks: Vec<Mark>) -> Tokens<'a>
         requires { All (IsMark text.now) marks.items }
@@ -78,5 +78,12 @@ impl<'a> Tokens<'a> {
         ensures { IsSomeAnd (slice_get self.now place) (λ t. result ≡ t.at) }
     {
         self.marks[place].at as usize
+    }
+
+    /// What takes the tokens of the table.
+    pub fn walk(&self) -> Walk<'_, 'a>
+        ensures { result ≡ self.now }
+    {
+        Walk::new(self.text, &self.marks)
     }
 }

@@ -1,7 +1,12 @@
 -- The entries of a module have different names.
-use Rattle.ir_reader.proofs.Common.{◌≡◌, ℕ, ◌-◌, Bool, true, false, List, [], ◌∷◌, ◌++◌, map, refl, sym, ap, subst, ◌∙◌, ◌||◌, list_any, AllByRecursion, IsDistinct, Lexeme, Define, IsCut, nothing, other, same_name, Name, Entry, AreEntries, or_parts}
+use Rattle.ir_reader.proofs.Common.{◌≡◌, ℕ, ◌+◌, ◌-◌, ◌<◌, ◌≤◌, length, get_or, take_all, Bool, true, false, List, [], ◌∷◌, ◌++◌, map, refl, sym, ap, subst, ◌∙◌, list_any, AllByRecursion, IsDistinct, Lexeme, Define, IsCut, nothing, other, same_name, Name, Entry, AreEntries, or_parts}
 use Rattle.std.proofs.lemmas.Slice.Eq.{bytes_eq-Decides}
+use Rattle.std.proofs.Common.{take, cond}
+use Rattle.std.specs.Prelude.{is_some, position}
+use Rattle.std.proofs.lemmas.List.{map-append, take_more}
 use Rattle.ir_items.specs.Items.{define}
+use Rattle.ir_items.proofs.HeadTokens.{found_some}
+use Rattle.ir_tree.specs.Names.{with_name}
 use Rattle.ir_tree.specs.declared.name.Name.TheVariants.{Number, Word}
 
 bytes-same : (xs ys : List ℕ) (b : Bool) → (b ≡ true → xs ≡ ys) × (xs ≡ ys → b ≡ true) → (c : Bool) → (c ≡ true → ys ≡ xs) × (ys ≡ xs → c ≡ true) → b ≡ c
@@ -41,7 +46,7 @@ cut-distinct tokens _ defines (other {first} cut item) = cut-distinct tokens fir
 cut-distinct tokens _ _ (define {first} {place} {end} {name} {defines} cut item named fresh few) =
     subst (λ (ns : List Name). IsDistinct same_name ns) (sym (names-push defines (record { name = name; first = first; last = end - 1 }))) (distinct-push (names_of defines) name (cut-distinct tokens first defines cut) fresh)
 
-entry-names : (tokens : List Lexeme) (defines : List Define) (entries : List Entry) → AreEntries tokens defines entries → names_of defines ≡ map (λ (e : Entry). e.name) entries
+pub entry-names : (tokens : List Lexeme) (defines : List Define) (entries : List Entry) → AreEntries tokens defines entries → names_of defines ≡ map (λ (e : Entry). e.name) entries
 entry-names tokens [] [] E = refl
 entry-names tokens [] (x ∷ xs) E = absurd E
 entry-names tokens (d ∷ ds) [] E = absurd E
@@ -49,3 +54,30 @@ entry-names tokens (d ∷ ds) (x ∷ xs) (E, Es) = ap (λ (n : Name). n ∷ name
 
 pub different : (tokens : List Lexeme) (end : ℕ) (defines : List Define) (entries : List Entry) → IsCut tokens end defines → AreEntries tokens defines entries → IsDistinct same_name (map (λ (e : Entry). e.name) entries)
 different tokens end defines entries C E = subst (λ (ns : List Name). IsDistinct same_name ns) (entry-names tokens defines entries E) (cut-distinct tokens end defines C)
+
+-- ---- names that are looked up one after another
+
+-- these are the names of the first entries, and they differ
+pub record OwnNames (entries : List Entry) (count : ℕ) (names : List Name) : Type 0 where
+  pub are : names ≡ map (λ (e : Entry). e.name) (take count entries)
+  pub distinct : IsDistinct same_name names
+
+pub own-none : (entries : List Entry) (names : List Name) → names ≡ [] → OwnNames entries 0 names
+unfolding IsDistinct
+own-none entries names none = record { are = none; distinct = rw none tt }
+
+pub own-more : (entries : List Entry) (count : ℕ) (e : Entry) (names new : List Name) (name : Name) → count < length entries → e ≡ get_or entries count e → name ≡ e.name → is_some (position (same_name e.name) names) ≡ false → new ≡ with_name names name
+    → OwnNames entries count names → OwnNames entries (count + 1) new
+own-more entries count e names new name lt is copy absent with own =
+    let fresh : list_any (same_name name) names ≡ false = ap (λ (n : Name). list_any (same_name n) names) copy ∙ sym (found_some (same_name e.name) names) ∙ absent in
+    let pushed : new ≡ names ++ name ∷ [] = with ∙ ap (λ (b : Bool). cond b names (names ++ name ∷ [])) fresh in
+    let more : take (count + 1) entries ≡ take count entries ++ e ∷ [] = take_more entries count e lt ∙ ap (λ (x : Entry). take count entries ++ x ∷ []) (sym is) in
+    let all : map (λ (x : Entry). x.name) (take (count + 1) entries) ≡ map (λ (x : Entry). x.name) (take count entries) ++ e.name ∷ [] =
+    ap (map (λ (x : Entry). x.name)) more ∙ map-append (λ (x : Entry). x.name) (take count entries) (e ∷ []) in
+    record {
+      are = pushed ∙ ap (λ (ns : List Name). ns ++ name ∷ []) own.are ∙ ap (λ (n : Name). map (λ (x : Entry). x.name) (take count entries) ++ n ∷ []) copy ∙ sym all;
+      distinct = subst (λ (ns : List Name). IsDistinct same_name ns) (sym pushed) (distinct-push names name own.distinct fresh);
+    }
+
+pub own-all : (entries : List Entry) (count : ℕ) (names : List Name) → length entries ≤ count → OwnNames entries count names → IsDistinct same_name (map (λ (e : Entry). e.name) entries)
+own-all entries count names le own = subst (λ (ns : List Name). IsDistinct same_name ns) (own.are ∙ ap (map (λ (e : Entry). e.name)) (take_all count entries le)) own.distinct

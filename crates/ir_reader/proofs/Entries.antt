@@ -1,10 +1,11 @@
 -- The entries of a module, as a loop makes them, and where its defines are.
-use Rattle.ir_reader.proofs.Common.{◌≡◌, ℕ, zero, suc, ◌+◌, ◌-◌, ◌<◌, ◌≤◌, List, [], ◌∷◌, ◌++◌, length, drop, Option, Some, None, ◌∙◌, refl, sym, ap, subst, append_assoc, arith, slice_get, IsOkAnd, min, drop-drop, Lexeme, Spot, with_front, Define, IsCut, nothing, other, IsDefine, Entry, Ascend, IsEntry, AreEntries}
+use Rattle.ir_reader.proofs.Common.{◌≡◌, ℕ, zero, suc, ◌+◌, ◌-◌, ◌≤◌, List, [], ◌∷◌, ◌++◌, length, drop, Option, Some, None, ◌∙◌, refl, sym, ap, subst, append_assoc, arith, slice_get, IsOkAnd, min, drop-drop, Lexeme, Spot, with_front, Define, IsCut, IsDefine, Entry, Ascend, IsEntry, AreEntries}
 use Rattle.std.proofs.Common.{Result, Ok, Err, append-nil}
 use Rattle.ir_lexer.specs.declared.lexing.LexFault.{LexFault}
 use Rattle.ir_lexer.specs.declared.lexing.LexFault.TheVariants.{NoToken, NoMemory}
 use Rattle.ir_lexer.specs.Answer.{IsNext, Stops}
-use Rattle.ir_items.specs.Items.{define}
+use Rattle.ir_items.specs.Joined.{AreItems}
+use Rattle.ir_items.proofs.Joined.{items-of-cut}
 
 -- ---- the defines follow one another
 
@@ -24,12 +25,15 @@ define-spans tokens first place end D =
     let body = D.closed.some in
     (omega arith, omega arith)
 
-pub cut-ascends : (tokens : List Lexeme) (end : ℕ) (defines : List Define) → IsCut tokens end defines → Ascend 0 end defines
-cut-ascends tokens _ _ nothing = omega arith
-cut-ascends tokens end defines (other {first} cut item) = let some = item.goes_on.some in ascend-later 0 first end defines (cut-ascends tokens first defines cut) (omega arith)
-cut-ascends tokens _ _ (define {first} {place} {end} {name} {defines} cut item named fresh few) =
+pub items-ascend : (tokens : List Lexeme) (end : ℕ) (defines : List Define) → AreItems tokens end defines → Ascend 0 end defines
+items-ascend tokens _ _ AreItems.nothing = omega arith
+items-ascend tokens end defines (AreItems.other {first} items item) = let some = item.goes_on.some in ascend-later 0 first end defines (items-ascend tokens first defines items) (omega arith)
+items-ascend tokens _ _ (AreItems.define {first} {place} {end} {name} {defines} items item named) =
     let spans = define-spans tokens first place end item in
-    ascend-push 0 first end defines (record { name = name; first = first; last = end - 1 }) (cut-ascends tokens first defines cut) (omega arith) spans.0 spans.1
+    ascend-push 0 first end defines (record { name = name; first = first; last = end - 1 }) (items-ascend tokens first defines items) (omega arith) spans.0 spans.1
+
+pub cut-ascends : (tokens : List Lexeme) (end : ℕ) (defines : List Define) → IsCut tokens end defines → Ascend 0 end defines
+cut-ascends tokens end defines cut = items-ascend tokens end defines (items-of-cut tokens end defines cut)
 
 -- the last of them ends before the end
 pub ascend-end : (from end : ℕ) (defines : List Define) → Ascend from end defines → from ≤ end

@@ -11,4 +11,4 @@ pub mod Answers
 pub mod OneFunction
 pub mod Entries
 pub mod Different
-pub mod Starts
+pub mod Spans

@@ -1,6 +1,6 @@
 -- No division has undef for an operand, and a select that has one is between integers: as it is spelled, as it is
 -- numbered, and, since its arms have the same type, of a function whose types are right.
-use Rattle.ir_reader.proofs.Common.{◌≡◌, ◌∙◌, ◌⊎◌, inl, inr, ℕ, Bool, true, false, cond, List, [], ◌∷◌, Option, Some, None, refl, sym, ap, subst, ◌&&◌, ◌||◌, not, bytes_eq, codes, Lexeme, Kind, Name, IrType, Int, Ptr, Inst, Spells, WrittenType, number_of, truth_value, operand_at, operand_class, one, arm, so, value_in, typed_in, then-so}
+use Rattle.ir_reader.proofs.Common.{◌≡◌, ◌∙◌, ◌⊎◌, inl, inr, ℕ, Bool, true, false, cond, List, Option, Some, None, refl, sym, ap, subst, ◌&&◌, ◌||◌, not, bytes_eq, codes, Lexeme, Kind, Name, IrType, Int, Ptr, Inst, Spells, WrittenType, number_of, truth_value, operand_at, operand_class, one, arm, so, value_in, typed_in, then-so}
 use Rattle.ir_lexer.specs.declared.token.Kind.TheVariants as kind
 use Rattle.ir_items.specs.Names.{name_in}
 use Rattle.ir_words.specs.Numbers.{is_negative, magnitude, wrapped}

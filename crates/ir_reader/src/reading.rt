@@ -40,8 +40,8 @@ pub fn read(alloc: Global, text: &[u8]) -> Result<Module, ModuleFault>
     Ok(Module { entries })
 }
 
-/// The tokens of a text, or its fault, as the lexer returns them.
-pub fn tokens<'a>(found: Result<Tokens<'a>, LexFault>) -> Result<Tokens<'a>, ModuleFault>
+// The tokens of a text, or its fault, as the lexer returns them.
+fn tokens<'a>(found: Result<Tokens<'a>, LexFault>) -> Result<Tokens<'a>, ModuleFault>
     ensures tokens { IfOk result (λ tokens. (text : List ℕ) → Gives found.entry (lexed text) → lexed text ≡ Ok tokens) }
     ensures fault { IfErr result (λ fault. (text : List ℕ) → Gives found.entry (lexed text) → IsFault text fault) }
 {
@@ -85,8 +85,8 @@ fn defines(alloc: Global, text: &[u8]) -> Result<Sequence<Define>, ModuleFault>
     defines_of(alloc, text, &tokens)
 }
 
-/// The defines among the tokens of a text.
-pub fn defines_of(
+// The defines among the tokens of a text.
+fn defines_of(
     alloc: Global,
     text: &[u8],
     tokens: &Tokens<'_>,
@@ -106,8 +106,8 @@ pub fn defines_of(
     }
 }
 
-// What the tokens of a define are.
-fn answer(alloc: Global, tokens: &[Token]) -> Result<Result<Function, Refused>, NoMemory>
+/// What the tokens of a define are.
+pub fn answer(alloc: Global, tokens: &[Token]) -> Result<Result<Function, Refused>, NoMemory>
     ensures { IfOk result (IsFunction tokens.now) }
 {
     match function(alloc, tokens) {
@@ -117,8 +117,8 @@ fn answer(alloc: Global, tokens: &[Token]) -> Result<Result<Function, Refused>, 
     }
 }
 
-/// The entry of a define. The lexer has passed `done` tokens, and afterwards those of the define too.
-pub fn entry(
+// The entry of a define. The lexer has passed `done` tokens, and afterwards those of the define too.
+fn entry(
     alloc: Global,
     lexer: &mut Lexer<'_>,
     done: usize,

@@ -2,7 +2,7 @@
 
 use crate::expecting::expect;
 use crate::token_lists::tokens_of;
-use ir_lexer::{LexFault, Lexer, Token, Tokens, lex, lex_beside};
+use ir_lexer::{LexFault, lex};
 use std::alloc::Global;
 use std::test::Fail;
 use text_places::Place;
@@ -108,81 +108,4 @@ fn places_without_a_token(rt: HostRuntime) -> Result<(), Fail> {
     }
     assert!(rt; lex(alloc, b"a\x00").is_err());
     expect(lex(alloc, b"\xc3").is_err(), "places without a token")
-}
-
-/// The table has the class, the bytes and the line of each token that the lexer gives.
-#[test]
-fn the_table_has_what_the_lexer_gives(rt: HostRuntime) -> Result<(), Fail> {
-    let text = b"; a comment\n@s = c\"two\nlines\" x\n  ; \"no string\n\ty";
-    let table = lex(rt.alloc(), text)?;
-    let tokens = tokens_of(rt.alloc(), text)?;
-    expect(
-        has_tokens(&table, tokens.as_slice(), &[2, 2, 2, 3, 5]),
-        "the table has what the lexer gives",
-    )
-}
-
-/// Whether the table has these tokens, on these lines.
-fn has_tokens(table: &Tokens, tokens: &[Token], lines: &[u64]) -> bool {
-    if table.len() != tokens.len() || tokens.len() != lines.len() {
-        return false;
-    }
-    for (index, token) in tokens.iter().enumerate() {
-        let is_alike = table.kind(index) == token.kind()
-            && table.text(index) == token.text()
-            && table.line(index) == token.place().line
-            && table.line(index) == lines[index];
-        if !is_alike {
-            return false;
-        }
-    }
-    true
-}
-
-/// `skip` and `take` in turn pass the tokens that `next` gives.
-#[test]
-fn parts_of_the_tokens(rt: HostRuntime) -> Result<(), Fail> {
-    let alloc = rt.alloc();
-    let text = b"a %b\n@c ; d\n 5 \"e\" ( f:";
-    let tokens = tokens_of(alloc, text)?;
-    let table = lex(alloc, text)?;
-    assert_eq!(rt; table.len(), 7);
-    let mut lexer = Lexer::new(text);
-    let front = lexer.take(alloc, 2)?;
-    lexer.skip(3);
-    let back = lexer.take(alloc, 2)?;
-    assert!(rt; lexer.next()?.is_none());
-    expect(
-        is_part(front.as_slice(), tokens.as_slice(), 0)
-            && is_part(back.as_slice(), tokens.as_slice(), 5),
-        "parts of the tokens",
-    )
-}
-
-/// Several workers find what one finds, also where a string or a comment goes on after a line feed.
-#[test]
-fn tokens_by_several_workers(rt: HostRuntime) -> Result<(), Fail> {
-    let alloc = rt.alloc();
-    let text = b"a %b\n@c ; d \"\n \"e\nf\n\n\" ( g:\n\n5\n";
-    let one = lex(alloc, text)?;
-    assert_eq!(rt; one.len(), 7);
-    for workers in 0..9 {
-        let several = lex_beside(&rt, alloc, text, workers)?;
-        assert_eq!(rt; several.len(), one.len());
-        for at in 0..one.len() {
-            assert_eq!(rt; several.at(at), one.at(at));
-            assert_eq!(rt; several.line(at), one.line(at));
-        }
-    }
-    Ok(())
-}
-
-/// Whether the tokens are those of a list from an index on.
-fn is_part(part: &[Token], tokens: &[Token], first: usize) -> bool {
-    let Some(rest) = tokens.get(first..) else {
-        return false;
-    };
-    part.len() <= rest.len()
-        && part.iter().zip(rest).all(|(token, other)| other.text() == token.text()
-            && other.at() == token.at())
 }

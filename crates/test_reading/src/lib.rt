@@ -9,9 +9,9 @@ mod answers;
 #[cfg(test)]
 mod assigned_tests;
 #[cfg(test)]
-mod blocks_tests;
+mod beside_tests;
 #[cfg(test)]
-mod bracket_tests;
+mod blocks_tests;
 #[cfg(test)]
 mod check_tests;
 #[cfg(test)]
@@ -20,10 +20,6 @@ mod damaged_tests;
 mod definite_assignment_tests;
 #[cfg(test)]
 mod expecting;
-#[cfg(test)]
-mod flow_tests;
-#[cfg(test)]
-mod grammar_tests;
 #[cfg(test)]
 mod item_tests;
 #[cfg(test)]

@@ -1,7 +1,7 @@
-use Rattle.ir_reader.proofs.Common.{List, Lexeme, All, AreEntries}
-use Rattle.std.proofs.Common.{take}
-use Rattle.ir_reader.specs.Beside.{IsStart, defines_in}
+use Rattle.ir_reader.proofs.Common.{◌≡◌, ℕ, drop, into_iter_items}
+use Rattle.std.proofs.Common.{Ok}
+use Rattle.ir_reader.proofs.Entries.{SoFar}
 use Rattle.ir_reader.proofs.beside.entries_of.Given as goal
 
-abbrev pub invariant-loop-start : goal.invariant-loop-start
-invariant-loop-start l = (tokens : List Lexeme) → All (IsStart tokens) l.starts → AreEntries tokens (defines_in (take l.start-index l.starts)) l.entries.items
+abbrev pub invariant-loop-define : goal.invariant-loop-define
+invariant-loop-define l = (l.walk ≡ l.fn.tokens) × (done : ℕ) × SoFar l.tokens l.fn.defines (into_iter_items l.define-iterator) done (Ok (drop done l.tokens)) l.entries.items

@@ -1,4 +1,4 @@
-use Rattle.ir_reader.proofs.Common.{◌≡◌, ◌∙◌, ap, subst, place_or_end}
+use Rattle.ir_reader.proofs.Common.{◌∙◌, ap, subst, place_or_end}
 use Rattle.std.proofs.Common.{min}
 use Rattle.ir_items.specs.Stops.{Stops}
 use Rattle.ir_reader.proofs.Entries.{get-min}

@@ -1,4 +1,4 @@
-use Rattle.ir_reader.proofs.Common.{◌≡◌, ◌∙◌, ◌+◌, List, drop, refl, subst, Lexeme, IsFunction}
+use Rattle.ir_reader.proofs.Common.{◌∙◌, ◌+◌, List, drop, refl, subst, Lexeme, IsFunction}
 use Rattle.ir_reader.proofs.Entries.{passed, enough}
 use Rattle.ir_reader.proofs.reading.entry.Goals as goal
 
