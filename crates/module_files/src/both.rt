@@ -7,9 +7,9 @@ ghost use Rattle.module_files.specs.Reading.{AreParsed, AreRead, AreWithin, Coun
 
 use crate::stop::{LoadFault, Stop, Trouble};
 use crate::texts::{TEXT_LIMIT, load, module_beside, module_from, module_of};
-use ir_tree::Module;
+use ir_tree::{Entry, Module};
 use std::alloc::Global;
-use std::thread::Threads;
+use std::thread::{Threads, join};
 use tv_io::Shelf;
 
 /// The modules of a source and a target.
@@ -120,4 +120,32 @@ fn modules_in(alloc: Global, source: &[u8], target: &[u8]) -> Result<Modules, St
     let source = module_of(alloc, source).map_err(LoadFault::at_source)?;
     let target = module_of(alloc, target).map_err(LoadFault::at_target)?;
     Ok(Modules { source, target })
+}
+
+/// Gives back the memory of the modules, by this many workers: a module may be some hundred thousand
+/// parts, which take a thread nearly as long as it took to read them.
+pub fn give_back<R: Threads + Sync>(rt: &R, modules: Modules, workers: u64) {
+    entries_back(rt, modules.source.entries.into_vec(), workers);
+    entries_back(rt, modules.target.entries.into_vec(), workers);
+}
+
+// So few entries are given back by one worker: to start a thread takes as long.
+const FEW: usize = 128;
+
+// Gives back some entries, by this many workers.
+#[cycle(workers)]
+fn entries_back<R: Threads + Sync>(rt: &R, mut entries: Vec<Entry>, workers: u64) {
+    if workers < 2 || entries.len() < FEW {
+        return;
+    }
+    let others = workers / 2;
+    let rest = workers - others;
+    let Ok(back) = entries.split_off(entries.len() / 2) else {
+        return;
+    };
+    let ((), ()) = join(
+        rt,
+        || { entries_back(rt, entries, others) },
+        || { entries_back(rt, back, rest) },
+    );
 }

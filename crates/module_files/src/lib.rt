@@ -13,7 +13,7 @@ mod refusals;
 mod stop;
 mod texts;
 
-pub use both::{Modules, read_both, read_both_beside, read_texts};
+pub use both::{Modules, give_back, read_both, read_both_beside, read_texts};
 pub use refusals::{refuse, refuse_file};
 pub use stop::{LoadFault, Stop, Trouble};
 pub use texts::{load, module_of};

@@ -1,4 +1,4 @@
-ghost use Rattle.std.specs.Prelude.{◌≡◌, ◌+◌, ◌*◌, ◌^◌, ◌<◌, false, length, slice_index_or, take, IfOk};
+ghost use Rattle.std.specs.Prelude.{◌≡◌, ◌+◌, ◌*◌, ◌^◌, ◌<◌, ◌≤◌, false, length, slice_index_or, take, IfOk};
 ghost use Rattle.std.specs.List.{AllByRecursion, AllZip};
 ghost use Rattle.verdicts.specs.Pair.{Functions};
 ghost use Rattle.pair_driver.specs.Draws.{StopsAtFirst};
@@ -82,10 +82,22 @@ impl<'b, J: Judge, G: Gate> Tasks for Search<'b, J, G> {
     }
 }
 
+/// How many of these workers there is a pair for, and at least one: a thread that finds no pair left costs
+/// more than a small pair.
+fn needed(workers: u64, count: usize) -> u64
+    requires some_worker { 0 < workers }
+    requires fits { workers * (count + 1) < 2 ^ 64 }
+    ensures some_worker { 0 < result }
+    ensures few { result ≤ workers }
+    ensures fits { result * (count + 1) < 2 ^ 64 }
+{
+    workers.min(count as u64).max(1)
+}
+
 /// Judges all pairs by `workers` workers, and answers the judgements in the order of the pairs.
 ///
 /// Each worker claims the next pair when it is free, so one pair that takes long does not hold the
-/// others. Before a pair is judged it passes the gate, by its index. Where a thread can't be started its
+/// others; no more are started than there are pairs. Before a pair is judged it passes the gate, by its index. Where a thread can't be started its
 /// work is done by the caller. `NoMemory` where some worker ran out of memory.
 pub fn drive<J: Judge, G: Gate, R: Threads + Sync>(
     rt: &R,
@@ -101,6 +113,7 @@ pub fn drive<J: Judge, G: Gate, R: Threads + Sync>(
     ensures { IfOk result (λ answers. AllZip (J.allows judge.now) pairs.now answers.items) }
 {
     let batch = Batch { judge, gate, pairs };
+    let workers = needed(workers, pairs.len());
     let answers = run_all(rt, alloc, &batch, workers)?;
     Ok(answers)
 }
@@ -129,6 +142,7 @@ pub fn drive_first<J: Judge, G: Gate, R: Threads + Sync>(
     let search = Search {
         batch: Batch { judge, gate, pairs },
     };
+    let workers = needed(workers, pairs.len());
     let answers = run_first(rt, alloc, &search, workers)?;
     Ok(answers)
 }

@@ -15,7 +15,7 @@ ghost use Rattle.tv_run.specs.Stops.{HasCause};
 ghost use Rattle.tv_run.specs.Answers.{CountsStop, HasReport, IsProofAsked, IsReportOf, IsReportOn, IsJudgeableModule};
 
 use ir_tree::Module;
-use module_files::{Stop, read_both_beside};
+use module_files::{Stop, give_back, read_both_beside};
 use module_rows::{Judgements, all_rows, first_rows, rows_in_turn};
 use pair_driver::{Gate, Judged};
 use pair_judge::Real;
@@ -59,6 +59,7 @@ pub fn report_of<S: Shelf, G: Gate, R: Threads + Sync>(
 {
     let both = read_both_beside(rt, alloc, shelf, check.source, check.target, check.workers)?;
     let report = report_of_modules(rt, alloc, check, gate, &both.source, &both.target)?;
+    give_back(rt, both, check.workers);
     Ok(report)
 }
 
