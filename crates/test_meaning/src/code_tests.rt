@@ -99,19 +99,6 @@ fn is_followed_by(
     }
 }
 
-#[test]
-fn codes_come_back_from_their_points(rt: HostRuntime) -> Result<(), Fail> {
-    let alloc = rt.alloc();
-    let shape = one_of_each(alloc)?;
-    let code = [0, 0, 1, 1, 0, 0, 0, 5, 6, 1];
-    let point = point_of(alloc, &code, &shape)?;
-    let again = code_of(alloc, &point, &shape)?;
-    expect(
-        again.as_slice() == code.as_slice(),
-        "codes come back from their points",
-    )
-}
-
 /// Whether sizes follow bytes, and the parts of a pointer follow the numbers of a byte.
 fn parts_follow_numbers(alloc: Global, shape: &Shape) -> Result<bool, NoMemory>
     requires no_byte { IsCode shape.now (0 ∷ 0 ∷ 0 ∷ 0 ∷ 0 ∷ 0 ∷ 0 ∷ 0 ∷ 0 ∷ 1 ∷ []) }

@@ -21,8 +21,6 @@ mod by_terms;
 #[cfg(test)]
 mod code_tests;
 #[cfg(test)]
-mod copy_tests;
-#[cfg(test)]
 mod difference_tests;
 #[cfg(test)]
 mod expecting;

@@ -1,15 +1,10 @@
-//! Runs of one function, whose one choice is added to its argument, by `interpret` and by a runner
-//! that is reused.
-
-ghost use Rattle.points.specs.Runnable.{IsRunnable};
-ghost use Rattle.choice_interp.specs.Runners.{IsRunner};
+//! Runs of one function, whose one choice is added to its argument, by `interpret`.
 
 use crate::expecting::expect;
-use crate::functions::{function_of, returns, run};
+use crate::functions::run;
 use crate::words::{numbers_in, value_in};
 use byte_block::Value;
-use choice_interp::{Ran, Runner, runner_for};
-use ir_tree::Function;
+use choice_interp::Ran;
 use points::{Bounds, Input, Outcome};
 use std::alloc::Global;
 use std::test::Fail;
@@ -78,37 +73,4 @@ fn a_run_takes_its_choices_from_the_tape(rt: HostRuntime) -> Result<(), Fail> {
         expect(holds(rt.alloc(), line)?, line)?;
     }
     Ok(())
-}
-
-fn runs_twice(alloc: Global, f: &Function, input: &Input) -> Result<bool, NoMemory>
-    requires { IsRunnable f.now }
-{
-    let mut runner = runner_for(alloc, f)?;
-    runs_again(&mut runner, f, input)
-}
-
-fn runs_again(runner: &mut Runner, f: &Function, input: &Input) -> Result<bool, NoMemory>
-    requires ready { IsRunner f.now runner.old }
-    requires runnable { IsRunnable f.now }
-{
-    let first = returns(runner, f, &BOUNDS, input, &[2], 3)?;
-    let second = returns(runner, f, &BOUNDS, input, &[5], 6)?;
-    Ok(first && second)
-}
-
-/// Whether both of two runs in turn on 1 return the sums.
-fn runs_on_one(alloc: Global, f: &Function) -> Result<bool, NoMemory>
-    requires { IsRunnable f.now }
-{
-    let input = input_of(alloc, Value::Num(1))?;
-    runs_twice(alloc, f, &input)
-}
-
-#[test]
-fn a_runner_runs_again_from_the_start(rt: HostRuntime) -> Result<(), Fail> {
-    let f = function_of(rt.alloc(), SUM)?;
-    expect(
-        runs_on_one(rt.alloc(), &f)?,
-        "a runner runs again from the start",
-    )
 }

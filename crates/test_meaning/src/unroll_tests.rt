@@ -1,4 +1,4 @@
-//! The copies of blocks for each count of backward jumps, and what a pair needs and weighs.
+//! Copies of blocks that are too many, and what a pair needs and weighs.
 
 ghost use Rattle.std.specs.List.{AllByRecursion};
 ghost use Rattle.ir_reader.specs.Judgeable.{IsJudgeableEntry};
@@ -6,14 +6,13 @@ ghost use Rattle.ir_reader.specs.Judgeable.{IsJudgeableEntry};
 use crate::expecting::expect;
 use crate::pairs::pair_in;
 use ir_reader::read;
-use ir_tree::{Block, Case, Function, Module, Name, Names, Operand, Terminator};
+use ir_tree::{Block, Function, Module, Name, Names, Operand, Terminator};
 use pair_costs::{need, weight, widest_of};
 use points::Bounds;
 use std::alloc::Global;
 use std::test::Fail;
 use support::{NoMemory, Sequence};
-use tv_num::Width;
-use unroll::{BlockCopy, Edge, layers};
+use unroll::layers;
 
 /// A block of no instructions.
 fn block(alloc: Global, label: usize, terminator: Terminator) -> Block {
@@ -49,90 +48,6 @@ fn two_blocks(alloc: Global) -> Result<Function, NoMemory> {
     blocks.push(block(alloc, 0, Terminator::Branch { to: 1 }))?;
     blocks.push(block(alloc, 1, back))?;
     Ok(function(alloc, blocks))
-}
-
-/// Where an edge leads.
-fn push_edge(text: &mut String, alloc: Global, edge: &Edge) -> Result<(), Fail> {
-    match edge {
-        Edge::Copy(index) => text.push_str(format!(in alloc; " {index}")?.as_str())?,
-        Edge::Beyond => text.push_str(" beyond")?,
-        Edge::Nowhere => text.push_str(" nowhere")?,
-    }
-    Ok(())
-}
-
-/// A line for a copy, with its backward jumps, its block and where each of its edges leads.
-fn push_copy(text: &mut String, alloc: Global, copy: &BlockCopy) -> Result<(), Fail> {
-    text.push_str(format!(in alloc; "{}.{}:", copy.turn, copy.block)?.as_str())?;
-    for edge in copy.edges.as_slice() {
-        push_edge(text, alloc, edge)?;
-    }
-    text.push_str("\n")?;
-    Ok(())
-}
-
-/// The copies within this number of backward jumps, a line for each.
-fn copies_text(alloc: Global, f: &Function, turns: u64) -> Result<String, Fail> {
-    let layered = layers(alloc, f, turns)?;
-    let mut text = String::new(alloc);
-    for copy in layered.copies.as_slice() {
-        push_copy(&mut text, alloc, copy)?;
-    }
-    Ok(text)
-}
-
-/// Whether a function's blocks have these copies.
-fn has_copies(alloc: Global, f: &Function, turns: u64, copies: &str) -> Result<bool, Fail> {
-    let text = copies_text(alloc, f, turns)?;
-    Ok(text.as_str() == copies)
-}
-
-/// The copies of the two blocks within 0, 1 and 2 backward jumps.
-const COPIES: [&str; 3] = [
-    "0.0: 1\n0.1: beyond beyond\n",
-    "0.0: 1\n0.1: 2 3\n1.0: 3\n1.1: beyond beyond\n",
-    "0.0: 1\n0.1: 2 3\n1.0: 3\n1.1: 4 5\n2.0: 5\n2.1: beyond beyond\n",
-];
-
-#[test]
-fn each_backward_jump_is_another_layer(rt: HostRuntime) -> Result<(), Fail> {
-    let f = two_blocks(rt.alloc())?;
-    for (turns, copies) in COPIES.iter().enumerate() {
-        expect(has_copies(rt.alloc(), &f, turns as u64, copies)?, copies)?;
-    }
-    Ok(())
-}
-
-/// A switch to block 0 by default, and to a block that does not exist.
-fn switch(alloc: Global) -> Result<Terminator, NoMemory> {
-    let cases = vec![in alloc; Case {
-        width: Width::of(1),
-        value: 0,
-        to: 7
-    }; 1]?;
-    Ok(Terminator::Switch {
-        width: Width::of(1),
-        operand: Operand::Poison,
-        default: 0,
-        cases: Sequence::from_vec(cases),
-    })
-}
-
-/// A block that ends with that switch.
-fn one_block(alloc: Global) -> Result<Function, NoMemory> {
-    let mut blocks = Vec::new(alloc);
-    blocks.push(block(alloc, 0, switch(alloc)?))?;
-    Ok(function(alloc, blocks))
-}
-
-/// The switch leads to its default, which is the block itself, and to a block that does not exist.
-#[test]
-fn a_label_that_no_block_has_leads_nowhere(rt: HostRuntime) -> Result<(), Fail> {
-    let f = one_block(rt.alloc())?;
-    expect(
-        has_copies(rt.alloc(), &f, 1, "0.0: 1 nowhere\n1.0: beyond nowhere\n")?,
-        "a label that no block has leads nowhere",
-    )
 }
 
 /// Whether two blocks have too many copies within this number of backward jumps.

@@ -7,6 +7,7 @@
 //! `make`, the seed, the functions and the instructions, and the bounds, the budget and the workers;
 //! or `-` where it is rejected.
 
+use points::{Bounds, Budget};
 use std::test::*;
 use tv_cli::{Check, Job, Make, read_job};
 
@@ -261,30 +262,41 @@ fn shown<R: AllocGlobal>(rt: &R, job: &Job<'_>) -> Result<String, Fail> {
     }
 }
 
+/// The bounds, the budget and the workers.
+fn limits<R: AllocGlobal>(
+    rt: &R,
+    bounds: &Bounds,
+    budget: &Budget,
+    workers: u64,
+) -> Result<String, Fail> {
+    let Bounds {
+        turns,
+        blocks,
+        bytes,
+    } = *bounds;
+    let Budget {
+        rounds,
+        conflicts,
+        weight,
+    } = *budget;
+    Ok(format!(in rt.alloc(); "{turns} {blocks} {bytes} {rounds} {conflicts} {weight} {workers}")?)
+}
+
 fn shown_check<R: AllocGlobal>(rt: &R, check: &Check<'_>) -> Result<String, Fail> {
-    let bounds = check.bounds;
-    let budget = check.budget;
-    let files = format!(in rt.alloc(); "{} {}", check.source, check.target)?;
-    let within = format!(in rt.alloc(); "{} {} {}", bounds.turns, bounds.blocks, bounds.bytes)?;
-    let spent = format!(in rt.alloc(); "{} {} {}", budget.rounds, budget.conflicts, budget.weight)?;
-    let workers = check.workers;
+    let limits = limits(rt, &check.bounds, &check.budget, check.workers)?;
+    let (to, proof) = match check.proof {
+        Some(proof) => (" to ", proof),
+        None => ("", ""),
+    };
     let first = if check.first { " first" } else { "" };
-    match check.proof {
-        Some(proof) => Ok(format!(in rt.alloc();
-            "{files} {within} {spent} {workers} to {proof}{first}"
-        )?),
-        None => Ok(format!(in rt.alloc(); "{files} {within} {spent} {workers}{first}")?),
-    }
+    let (source, target) = (check.source, check.target);
+    Ok(format!(in rt.alloc(); "{source} {target} {limits}{to}{proof}{first}")?)
 }
 
 fn shown_make<R: AllocGlobal>(rt: &R, make: &Make) -> Result<String, Fail> {
-    let bounds = make.bounds;
-    let budget = make.budget;
-    let sizes = format!(in rt.alloc(); "{} {} {}", make.seed, make.functions, make.insts)?;
-    let within = format!(in rt.alloc(); "{} {} {}", bounds.turns, bounds.blocks, bounds.bytes)?;
-    let spent = format!(in rt.alloc(); "{} {} {}", budget.rounds, budget.conflicts, budget.weight)?;
-    let workers = make.workers;
-    Ok(format!(in rt.alloc(); "make {sizes} {within} {spent} {workers}")?)
+    let limits = limits(rt, &make.bounds, &make.budget, make.workers)?;
+    let (seed, functions, insts) = (make.seed, make.functions, make.insts);
+    Ok(format!(in rt.alloc(); "make {seed} {functions} {insts} {limits}")?)
 }
 
 /// Fails where the line of a row asks for something else.

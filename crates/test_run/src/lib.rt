@@ -11,11 +11,10 @@
 
 #[cfg(test)]
 mod asking;
+#[cfg(test)]
 mod both;
 #[cfg(test)]
 mod choice_tests;
-#[cfg(test)]
-mod claim_tests;
 #[cfg(test)]
 mod cli_tests;
 #[cfg(test)]
@@ -53,8 +52,6 @@ mod refusal_tests;
 #[cfg(test)]
 mod report_tests;
 #[cfg(test)]
-mod settle_tests;
-#[cfg(test)]
 mod slot_tests;
 #[cfg(test)]
 mod trace_tests;
@@ -64,5 +61,3 @@ mod verdict_tests;
 mod wide_tests;
 #[cfg(test)]
 mod worker_tests;
-
-pub use both::{Both, both_verdicts};

@@ -7,8 +7,8 @@
 
 ghost use Rattle.std.specs.Prelude.{◌≤◌};
 
+use crate::both::{Both, both_verdicts};
 use crate::pairs::pair_in;
-use crate::{Both, both_verdicts};
 use byte_block::{BlockName, Ptr, Value};
 use ir_reader::read;
 use points::{Bounds, Budget, Point};

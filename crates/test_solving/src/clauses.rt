@@ -6,7 +6,7 @@ use std::alloc::Global;
 use support::{NoMemory, Sequence};
 
 /// The literal of a number other than 0.
-pub fn literal(number: i64) -> Lit {
+fn literal(number: i64) -> Lit {
     Lit {
         variable: number.unsigned_abs(),
         positive: number > 0,
@@ -23,14 +23,6 @@ pub fn clause(alloc: Global, numbers: &[i64]) -> Result<Clause, NoMemory> {
         return Err(NoMemory);
     }
     Ok(Clause::new(literals))
-}
-
-/// Whether a clause is there, and is this one.
-pub fn is_found(alloc: Global, found: Option<Clause>, want: &[i64]) -> Result<bool, NoMemory> {
-    match found {
-        Some(found) => Ok(found.is_same(&clause(alloc, want)?)),
-        None => Ok(false),
-    }
 }
 
 /// Clauses over n variables, the first of which are ordered. An error where they are none.

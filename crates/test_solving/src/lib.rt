@@ -1,6 +1,6 @@
 //! Terms, circuits, clauses and questions with answers that are known.
 //!
-//! These are the tests of the crates from `bv_terms` to `answer_order`: each operation on terms by
+//! These are the tests of the crates from `bv_terms` to `sat_ask`: each operation on terms by
 //! values from outside, as a number and as bits, what is simplified to one term or one gate, which
 //! outcome covers which; the clauses of a circuit, clauses whose least model or refutation is known,
 //! small drawn clauses against all assignments, logs that are checked, and questions about terms.
@@ -10,10 +10,6 @@
 
 #[cfg(test)]
 mod ask_tests;
-#[cfg(test)]
-mod builder_tests;
-#[cfg(test)]
-mod clause_tests;
 #[cfg(test)]
 mod clauses;
 #[cfg(test)]
@@ -37,8 +33,6 @@ mod mem_value_tests;
 #[cfg(test)]
 mod memory_outcome_tests;
 #[cfg(test)]
-mod order_tests;
-#[cfg(test)]
 mod pigeon_tests;
 #[cfg(test)]
 mod refine_tests;
@@ -52,8 +46,6 @@ mod term_tests;
 mod term_values;
 #[cfg(test)]
 mod tidy_tests;
-#[cfg(test)]
-mod trail_tests;
 #[cfg(test)]
 mod written_gates;
 #[cfg(test)]

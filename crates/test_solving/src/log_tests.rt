@@ -1,45 +1,14 @@
-//! Resolvents, chains and logs.
+//! Logs.
 
-use crate::clauses::{clause, cnf, is_found};
+use crate::clauses::cnf;
 use crate::expecting::expect;
 use clause_lits::Clause;
-use clause_log::{Log, LogFault, Step, chain_resolvent, check_log, resolve};
+use clause_log::{Log, LogFault, Step, check_log};
 use smallvec::SmallVec;
 use std::alloc::Global;
 use std::test::Fail;
 use std::thread::Threads;
 use support::{NoMemory, Sequence};
-
-/// What two clauses resolve to.
-fn resolved(alloc: Global, left: &[i64], right: &[i64]) -> Result<Option<Clause>, NoMemory> {
-    resolve(alloc, &clause(alloc, left)?, &clause(alloc, right)?)
-}
-
-/// From `1 2` and `-1 3` comes `2 3`, and from `1 2` and `1 2` nothing.
-#[test]
-fn two_clauses_resolve(rt: HostRuntime) -> Result<(), Fail> {
-    let found = resolved(rt.alloc(), &[1, 2], &[-1, 3])?;
-    assert!(rt; is_found(rt.alloc(), found, &[2, 3])?);
-    expect(
-        resolved(rt.alloc(), &[1, 2], &[1, 2])?.is_none(),
-        "two clauses resolve",
-    )
-}
-
-/// What a chain over `1 2`, `-1 3` and `-2 4` ends in.
-fn end_of(alloc: Global, chain: &[u64]) -> Result<Option<Clause>, NoMemory> {
-    let clauses = cnf(alloc, 4, 0, &[&[1, 2], &[-1, 3], &[-2, 4]])?;
-    chain_resolvent(alloc, clauses.clauses.as_slice(), &[], chain)
-}
-
-/// The chain `1 2 3` over `1 2`, `-1 3` and `-2 4` ends in `3 4`, and the chain `2 3` resolves
-/// nothing.
-#[test]
-fn a_chain_resolves(rt: HostRuntime) -> Result<(), Fail> {
-    let found = end_of(rt.alloc(), &[1, 2, 3])?;
-    assert!(rt; is_found(rt.alloc(), found, &[3, 4])?);
-    expect(end_of(rt.alloc(), &[2, 3])?.is_none(), "a chain resolves")
-}
 
 /// A log of one step, the empty clause, or of none where the chain is empty.
 fn log_of(alloc: Global, chain: &[u64]) -> Result<Log, NoMemory> {
