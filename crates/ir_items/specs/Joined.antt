@@ -1,5 +1,5 @@
 -- Items of two lists of tokens that are joined to one.
-use Rattle.std.specs.Prelude.{◌≡◌, ℕ, ◌+◌, ◌-◌, ◌<◌, ◌^◌, List, [], ◌∷◌, ◌++◌, length, min, slice_get, IsSomeAnd, Option, Some, None}
+use Rattle.std.specs.Prelude.{◌≡◌, ℕ, ◌+◌, ◌-◌, ◌<◌, ◌^◌, List, [], ◌∷◌, ◌++◌, length, min, slice_get, nat_lt, IsSomeAnd, Bool, true, Option, Some, None}
 use Rattle.ir_lexer.specs.Lexeme.{Lexeme}
 use Rattle.ir_tree.specs.declared.name.Name.{Name}
 use Rattle.ir_items.specs.declared.edges.Edges.{Edges}
@@ -17,6 +17,11 @@ pub data AreItems (tokens : List Lexeme) : ℕ → List Define → Type 0 where
 -- a define after so many more tokens
 abbrev pub later : ℕ → Define → Define
 later count d = record { name = d.name; first = count + d.first; last = count + d.last }
+
+-- the second list begins on a later line than the one on which the first ends, by the edges of both
+abbrev pub do_meet : Option Edges → Option Edges → Bool
+do_meet (Some front) (Some back) = nat_lt front.last_line back.first_line
+do_meet front back = true
 
 -- the second list begins on a later line than the one on which the first ends, where both have a token
 abbrev pub Meets : List Lexeme → List Lexeme → Type 0

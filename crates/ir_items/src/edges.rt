@@ -2,6 +2,7 @@
 ghost use Rattle.std.specs.Prelude.{◌≡◌, ◌-◌, ◌<◌, ◌^◌, ◌++◌, List, length, min, slice_get, IsSomeAnd, true};
 ghost use Rattle.ir_lexer.specs.Lexeme.{Lexeme};
 ghost use Rattle.ir_items.specs.Items.{last_line};
+ghost use Rattle.ir_items.specs.Joined as spec;
 ghost use Rattle.ir_items.specs.Joined.{AreEdges, Meets};
 
 use crate::heads::line_feeds;
@@ -41,7 +42,8 @@ pub fn edges_of(tokens: &Tokens<'_>) -> Option<Edges>
 
 /// Whether tokens begin on a later line than others end, by the edges of both.
 pub fn do_meet(front: Option<Edges>, back: Option<Edges>) -> bool
-    ensures { result ≡ true → (ours theirs : List Lexeme) → AreEdges ours front → AreEdges theirs back → Meets ours theirs }
+    ensures value { result ≡ spec.do_meet front back }
+    ensures meets { result ≡ true → (ours theirs : List Lexeme) → AreEdges ours front → AreEdges theirs back → Meets ours theirs }
 {
     match (front, back) {
         (Some(front), Some(back)) => front.last_line < back.first_line,

@@ -1,5 +1,5 @@
 -- The tokens of a part of a text.
-use Rattle.std.specs.Prelude.{◌≡◌, ◌≤◌, ℕ, List, length, drop, map, Result, Ok, Err}
+use Rattle.std.specs.Prelude.{◌≡◌, ◌≤◌, ℕ, List, length, drop, map, false, Result, Ok, Err}
 use Rattle.std.specs.List.{All}
 use Rattle.text_places.specs.Place.{place_at}
 use Rattle.ir_lexer.specs.declared.lexing.LexFault.{LexFault}
@@ -10,11 +10,15 @@ use Rattle.ir_lexer.specs.Answer.{Fails}
 use Rattle.ir_lexer.specs.Lexeme.{Lexeme}
 use Rattle.ir_lexer.specs.Marks.{IsMark, lexeme_of}
 use Rattle.ir_lexer.specs.Position.{Position, behind, tokens_left}
-use Rattle.ir_lexer.specs.Tokens.{with_front}
+use Rattle.ir_lexer.specs.Tokens.{behind_blanks, with_front}
 
 -- the position of an offset of a text
 abbrev pub position : List ℕ → ℕ → Position
 position text at = record { text = text; rest = drop at text }
+
+-- the position of an offset, and past the blanks there
+abbrev pub later : List ℕ → ℕ → Position
+later text at = record { text = text; rest = behind_blanks false (drop at text) }
 
 -- the offset is in the text, and on this line
 abbrev pub IsStart : List ℕ → Start → Type 0

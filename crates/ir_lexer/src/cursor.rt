@@ -1,6 +1,6 @@
-ghost use Rattle.std.specs.Prelude.{◌≡◌, ◌+◌, ◌-◌, ◌<◌, ◌≤◌, ◌^◌, ◌++◌, ℕ, List, length, take, drop, count_by, Option, Some, None, IfSome};
+ghost use Rattle.std.specs.Prelude.{◌≡◌, ◌+◌, ◌-◌, ◌<◌, ◌≤◌, ◌^◌, ◌++◌, ℕ, List, length, take, drop, count_by, false, Option, Some, None, IfSome};
 ghost use Rattle.text_places.specs.Place.{place_behind, place_at, is_line_feed};
-ghost use Rattle.ir_lexer.specs.Tokens.{longest_token};
+ghost use Rattle.ir_lexer.specs.Tokens.{longest_token, behind_blanks};
 ghost use Rattle.ir_lexer.specs.Position.{start_of, bytes_before, IsWithin, Reads};
 ghost use Rattle.ir_lexer.specs.Scan.{name_run};
 
@@ -157,7 +157,8 @@ impl<'a> Cursor<'a> {
     /// After this many bytes more, and the blanks there. It reads no token.
     pub fn skip(&self, len: usize) -> Cursor<'a>
         requires { len ≤ length self.now.rest }
-        ensures { result.text ≡ self.now.text }
+        ensures text { result.text ≡ self.now.text }
+        ensures rest { result.rest ≡ behind_blanks false (drop len self.now.rest) }
     {
         let (skipped, rest) = self.rest.split_at(len);
         let line = self.place.line + line_feeds(skipped);

@@ -1,7 +1,7 @@
 ghost use Rattle.std.specs.Prelude.{◌≡◌, ◌+◌, ◌≤◌, length, IfOk, IfErr};
 ghost use Rattle.ir_lexer.specs.Answer.{Fails};
 ghost use Rattle.ir_lexer.specs.Position.{start_of, tokens_left};
-ghost use Rattle.ir_lexer.specs.Part.{AreBetween, IsStart, position};
+ghost use Rattle.ir_lexer.specs.Part.{AreBetween, IsStart, later, position};
 
 use crate::cursor::Cursor;
 use crate::lexing::LexFault;
@@ -31,7 +31,8 @@ impl Start {
     pub fn later(self, text: &[u8], len: usize) -> Start
         requires start { IsStart text.now self }
         requires within { self.at + len ≤ length text.now }
-        ensures { IsStart text.now result }
+        ensures start { IsStart text.now result }
+        ensures later { position text.now result.at ≡ later text.now (self.at + len) }
     {
         Start::of(&Cursor::at(text, self.at, self.line).skip(len))
     }
@@ -68,6 +69,7 @@ pub fn lex_part<'a>(
     requires start { IsStart text.now start }
     requires end { end ≤ length text.now }
     ensures part { IfOk result (λ part. AreBetween text.now start.at part.after part.tokens) }
+    ensures end { IfOk result (λ part. end ≤ part.after) }
     ensures fault { IfErr result (λ fault. Fails fault (tokens_left (position text.now start.at))) }
 {
     if text.len() > u32::MAX as usize {

@@ -12,4 +12,4 @@ returns c text from ours theirs =
     let went : is_ok c.append.result ≡ true = sym c.ok.ensures.variant ∙ ap is_some c.in_ok-ok.was in
     let items : c.append.new.self.items ≡ c.args.front.entries.items ++ others.entries.items = rw went at c.append.ensures.items in
     let whole : Span = record { entries = c.append.new.self; edges = c.joined_edges.result; after = others.after } in
-    span-join text from c.args.front others whole items refl (c.do_meet.ensures c.if-not-do_meet.false) c.joined_edges.ensures ours (subst (λ (k : ℕ). IsSpan text k others) (sym c.if-front-back.false) back)
+    span-join text from c.args.front others whole items refl (c.do_meet.ensures.meets c.if-not-do_meet.false) c.joined_edges.ensures ours (subst (λ (k : ℕ). IsSpan text k others) (sym c.if-front-back.false) back)
