@@ -1,0 +1,119 @@
+#!/usr/bin/env python3
+"""Where the processor time of one crate's check goes: function by function, and file of proofs by file.
+
+    bench/functions.py NAME [--test] [--all]
+
+Checks the crate from nothing by `rt check`, after the libraries below it where they aren't built, and looks ten times a
+second at the processor time of the check and at the files that it leaves in `out/incremental`. A file that it has
+finished gets the time since the one before it, so short ones next to each other may be mixed up. The lines are seconds of
+one processor, the dearest first: of functions (`fn`), of files below `proofs/` (`proofs`), of definitions and contracts
+(`specs`), and of libraries below it (`below`); those under half a second are added up, unless `--all` is there. What comes
+before the first file is reading the sources and what lies below. With `--test` it is the check of the crate's tests. The
+machine may have other work: it is the time of the check's own processes. Linux alone.
+"""
+import collections
+import os
+import pathlib
+import re
+import shutil
+import subprocess
+import sys
+import time
+
+from gate import TICK, below
+
+CRATES = pathlib.Path(__file__).resolve().parent.parent / "crates"
+LEAST = 0.5
+# How the modules that a check makes for a function end, in which a proof of it is then found.
+PARTS = re.compile(r"\.(Answers|Code|Code\.Mir|Given|Goals|Invariants|Key|Kinds|Met|Proof|Reads|Statement|TheLink|Tie|Laws|TheImpl)+$")
+
+
+def spent(root):
+    """The processor seconds so far of a process, of those below it and of children that have ended."""
+    return sum(sum(map(int, stat[11:15])) for stat in below(root).values()) / TICK
+
+
+def named(file, crate):
+    """The kind and the name of what a file of a check is for."""
+    name = re.sub(r"(\.decls)?\.oantt$", "", file).removeprefix("Rattle-")
+    if re.match(rf"{crate}-proofs\.", name):
+        while PARTS.search(name):
+            name = PARTS.sub("", name)
+        return "fn", name.removeprefix(f"{crate}-proofs.")
+    if re.match(rf"{crate}[.]proofs\.", name):
+        name = name.removeprefix(f"{crate}.proofs.")
+        return ("fn", PARTS.sub("", name)) if PARTS.search(name) else ("proofs", name)
+    return ("specs" if re.match(rf"{crate}\b", name) else "below"), re.split(r"[-.]", name)[0]
+
+
+def finished(folder, known):
+    """The files of a check that are not known yet, the earliest first, with the time when each was written."""
+    found = []
+    for at, _, names in os.walk(folder):
+        for name in names:
+            path = os.path.join(at, name)
+            if name.endswith(".oantt") and path not in known:
+                try:
+                    found.append((os.stat(path).st_mtime, name))
+                    known.add(path)
+                except OSError:
+                    continue
+    return sorted(found)
+
+
+def at_time(looks, when):
+    """The processor seconds at a moment, between the looks before and after it."""
+    before = (looks[0][0], looks[0][1])
+    for moment, seconds in looks:
+        if moment >= when:
+            share = (when - before[0]) / max(moment - before[0], 1e-9)
+            return before[1] + (seconds - before[1]) * min(max(share, 0), 1)
+        before = (moment, seconds)
+    return looks[-1][1]
+
+
+def watched(command, crate_folder, folder):
+    """Runs a check: its status, the looks at its processor time, and the files that it wrote with their times."""
+    check = subprocess.Popen(command, cwd=crate_folder, stdout=subprocess.DEVNULL)
+    looks, known, files = [(time.time(), 0.0)], set(), []
+    while check.poll() is None:
+        looks.append((time.time(), spent(check.pid)))
+        if len(looks) % 20 == 0:
+            files += finished(folder, known)
+        time.sleep(0.1)
+    return check.returncode, looks, sorted(files + finished(folder, known))
+
+
+def seconds_of(looks, files, crate):
+    """The seconds of each thing that files are for, and those before the first file."""
+    if not files:
+        return collections.Counter(), looks[-1][1]
+    last = first = at_time(looks, files[0][0])
+    seconds = collections.Counter()
+    for moment, name in files:
+        now = max(at_time(looks, moment), last)
+        seconds[named(name, crate)] += now - last
+        last = now
+    return seconds, first
+
+
+def main():
+    words = [word for word in sys.argv[1:] if not word.startswith("--")]
+    if len(words) != 1 or not (CRATES / words[0]).is_dir():
+        sys.exit(__doc__)
+    crate, tests = words[0], ["--test"] if "--test" in sys.argv else []
+    folder = CRATES / crate / "out/incremental"
+    shutil.rmtree(folder, ignore_errors=True)
+    status, looks, files = watched(["rt", "check", "--jobs", "1", *tests], CRATES / crate, folder)
+    seconds, first = seconds_of(looks, files, crate)
+    print(f"{crate}: {looks[-1][1]:.0f} seconds, {first:.0f} of them before the first file")
+    least = 0.0 if "--all" in sys.argv else LEAST
+    for (kind, name), found in seconds.most_common():
+        if found >= least:
+            print(f"{found:8.1f}  {kind:6}  {name}")
+    print(f"{sum(it for it in seconds.values() if it < least):8.1f}  others, each below {least}")
+    sys.exit(status)
+
+
+if __name__ == "__main__":
+    main()
