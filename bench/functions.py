@@ -6,10 +6,11 @@
 Checks the crate from nothing by `rt check`, after the libraries below it where they aren't built, and looks ten times a
 second at the processor time of the check and at the files that it leaves in `out/incremental`. A file that it has
 finished gets the time since the one before it, so short ones next to each other may be mixed up. The lines are seconds of
-one processor, the dearest first: of functions (`fn`), of files below `proofs/` (`proofs`), of definitions and contracts
-(`specs`), and of libraries below it (`below`); those under half a second are added up, unless `--all` is there. What comes
-before the first file is reading the sources and what lies below. With `--test` it is the check of the crate's tests. The
-machine may have other work: it is the time of the check's own processes. Linux alone.
+one processor, the dearest first: of the steps that the check makes of a function's code (`code`), of its goals and their
+proofs (`fn`), of files below `proofs/` (`proofs`), of definitions and contracts (`specs`), and of libraries below it
+(`below`); those under half a second are left out, unless `--all` is there. What comes before the first file is reading the
+sources and what lies below. With `--test` it is the check of the crate's tests. The machine may have other work: it is the
+time of the check's own processes. Linux alone.
 """
 import collections
 import os
@@ -24,8 +25,8 @@ from gate import TICK, below
 
 CRATES = pathlib.Path(__file__).resolve().parent.parent / "crates"
 LEAST = 0.5
-# How the modules that a check makes for a function end, in which a proof of it is then found.
-PARTS = re.compile(r"\.(Answers|Code|Code\.Mir|Given|Goals|Invariants|Key|Kinds|Met|Proof|Reads|Statement|TheLink|Tie|Laws|TheImpl)+$")
+# Where the name of a module that a check makes for a function goes on after the function's own.
+PART = re.compile(r"\.(Answers|Carried|Code|Given|Goals|Invariants|Key|Kinds|Laws|Layout|Lts|Met|Named|Proof|Reads|Statement|Symbol|The[A-Z]\w*|Tie)\b")
 
 
 def spent(root):
@@ -36,14 +37,15 @@ def spent(root):
 def named(file, crate):
     """The kind and the name of what a file of a check is for."""
     name = re.sub(r"(\.decls)?\.oantt$", "", file).removeprefix("Rattle-")
-    if re.match(rf"{crate}-proofs\.", name):
-        while PARTS.search(name):
-            name = PARTS.sub("", name)
-        return "fn", name.removeprefix(f"{crate}-proofs.")
-    if re.match(rf"{crate}[.]proofs\.", name):
-        name = name.removeprefix(f"{crate}.proofs.")
-        return ("fn", PARTS.sub("", name)) if PARTS.search(name) else ("proofs", name)
-    return ("specs" if re.match(rf"{crate}\b", name) else "below"), re.split(r"[-.]", name)[0]
+    if not re.match(rf"{crate}\b", name):
+        return "below", re.split(r"[-.]", name)[0]
+    if not re.match(rf"{crate}[-.]proofs\.", name):
+        return "specs", crate
+    name = name[len(f"{crate}-proofs.") :]
+    part = PART.search(name)
+    if not part and (CRATES / crate / "proofs" / (name.replace(".", "/") + ".antt")).exists():
+        return "proofs", name
+    return ("code" if part and part[1] == "Lts" else "fn"), name[: part.start()] if part else name
 
 
 def finished(folder, known):
@@ -107,11 +109,12 @@ def main():
     status, looks, files = watched(["rt", "check", "--jobs", "1", *tests], CRATES / crate, folder)
     seconds, first = seconds_of(looks, files, crate)
     print(f"{crate}: {looks[-1][1]:.0f} seconds, {first:.0f} of them before the first file")
+    for kind in ("code", "fn", "proofs", "specs", "below"):
+        print(f"{sum(found for of, found in seconds.items() if of[0] == kind):8.1f}  {kind}")
     least = 0.0 if "--all" in sys.argv else LEAST
     for (kind, name), found in seconds.most_common():
         if found >= least:
             print(f"{found:8.1f}  {kind:6}  {name}")
-    print(f"{sum(it for it in seconds.values() if it < least):8.1f}  others, each below {least}")
     sys.exit(status)
 
 
