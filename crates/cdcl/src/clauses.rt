@@ -11,12 +11,18 @@ use std::alloc::Global;
 use support::NoMemory;
 
 /// Clauses by their numbers.
-#[derive(Drop)]
 pub struct Clauses {
     /// Of each clause its number, where a search in it goes on, how many literals it has, and these.
     cells: Vec<u32>,
     /// Where the literals of each clause begin.
     begins: Vec<u32>,
+}
+
+// Dropped by one call: a derived drop is written out at each return.
+impl Drop for Clauses {
+    fn drop(self) {
+        let Clauses { cells, begins } = self;
+    }
 }
 
 /// Where the literals of a clause are.

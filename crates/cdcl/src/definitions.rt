@@ -11,7 +11,6 @@ const BOTH: u8 = 3;
 
 /// For each variable a linked list of the clauses that make it true. Their other variables are those
 /// that the gate depends on.
-#[derive(Drop)]
 pub struct Definitions {
     /// The first clause of each variable; 0 for none.
     first: Vec<u32>,
@@ -19,6 +18,13 @@ pub struct Definitions {
     next: Vec<u32>,
     /// 1 for a variable that has clauses that make it true, plus 2 where it has others.
     kinds: Vec<u8>,
+}
+
+// Dropped by one call: a derived drop is written out at each return.
+impl Drop for Definitions {
+    fn drop(self) {
+        let Definitions { first, next, kinds } = self;
+    }
 }
 
 /// The literal of a clause whose variable is the greatest.

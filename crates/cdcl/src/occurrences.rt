@@ -10,7 +10,6 @@ use std::alloc::Global;
 use support::NoMemory;
 
 /// The occurrences of each literal.
-#[derive(Drop)]
 pub struct Occurrences {
     /// The first link of each literal.
     first: Vec<u32>,
@@ -24,6 +23,20 @@ pub struct Occurrences {
     live: Vec<u8>,
     /// For each clause a bit for each of its variables, by the variable's number modulo 64.
     signatures: Vec<u64>,
+}
+
+// Dropped by one call: a derived drop is written out at each return.
+impl Drop for Occurrences {
+    fn drop(self) {
+        let Occurrences {
+            first,
+            next,
+            owners,
+            counts,
+            live,
+            signatures,
+        } = self;
+    }
 }
 
 impl Occurrences {

@@ -22,7 +22,6 @@ const BARRED: u32 = u32::MAX;
 const MOST_DEPTH: u32 = 32;
 
 /// Variables in a heap by their scores, the greatest first.
-#[derive(Drop)]
 pub struct Order {
     heap: Vec<u32>,
     /// Where each variable is in the heap, counted from 1; 0 where it isn't in it.
@@ -31,6 +30,19 @@ pub struct Order {
     /// The score of each variable before a conflict, which is little beside what one adds.
     firsts: Vec<u32>,
     rise: u64,
+}
+
+// Dropped by one call: a derived drop is written out at each return.
+impl Drop for Order {
+    fn drop(self) {
+        let Order {
+            heap,
+            places,
+            scores,
+            firsts,
+            rise,
+        } = self;
+    }
 }
 
 impl Order {

@@ -17,7 +17,6 @@ const FACTOR: u64 = 0xff51_afd7_ed55_8ccd;
 const NOT_FIRST: u64 = u64::MAX - 1;
 
 /// The last pattern, and a hash of all patterns for each variable.
-#[derive(Drop)]
 pub struct Patterns {
     random: u64,
     words: Vec<u64>,
@@ -30,6 +29,21 @@ pub struct Patterns {
     table: Vec<u32>,
     /// Variables below this one are in the table.
     entered: u32,
+}
+
+// Dropped by one call: a derived drop is written out at each return.
+impl Drop for Patterns {
+    fn drop(self) {
+        let Patterns {
+            random,
+            words,
+            turned,
+            signatures,
+            count,
+            table,
+            entered,
+        } = self;
+    }
 }
 
 /// A number at an index, or 0.

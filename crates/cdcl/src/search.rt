@@ -29,7 +29,6 @@ pub enum Guessed {
 const RESTART_UNIT: u64 = 100;
 
 /// Clauses, and how far the search for a model of them is. It goes on where it stopped.
-#[derive(Drop)]
 pub struct Solver {
     pub(crate) alloc: Global,
     pub(crate) clauses: Clauses,
@@ -82,6 +81,43 @@ pub struct Solver {
     pub(crate) chains: Chains,
     /// The number of each step that was taken, among the clauses of who took it; 0 for others.
     pub(crate) taken: Vec<u32>,
+}
+
+// Dropped by one call: a derived drop is written out at each return.
+impl Drop for Solver {
+    fn drop(self) {
+        let Solver {
+            alloc,
+            clauses,
+            watches,
+            trail,
+            order,
+            phases,
+            seen,
+            marked,
+            head,
+            conflict,
+            given,
+            occurrences,
+            queue,
+            marks,
+            removed,
+            eliminated,
+            cleared,
+            work,
+            looks,
+            rated,
+            most_rated,
+            stamps,
+            stamp,
+            equalities,
+            is_swept,
+            is_reduced,
+            luby,
+            chains,
+            taken,
+        } = self;
+    }
 }
 
 /// How far the search is.

@@ -6,11 +6,17 @@ use std::alloc::Global;
 use support::NoMemory;
 
 /// The numbers of the clauses that each step is resolved from.
-#[derive(Drop)]
 pub struct Chains {
     numbers: Vec<u32>,
     /// Where the numbers of each chain end.
     ends: Vec<usize>,
+}
+
+// Dropped by one call: a derived drop is written out at each return.
+impl Drop for Chains {
+    fn drop(self) {
+        let Chains { numbers, ends } = self;
+    }
 }
 
 impl Chains {

@@ -29,7 +29,6 @@ const PAIR_CONFLICTS: u64 = 30;
 const LOOKS: u64 = 5000;
 
 /// What is known of gates.
-#[derive(Drop)]
 pub struct Sweep {
     pub definitions: Definitions,
     pub patterns: Patterns,
@@ -37,6 +36,19 @@ pub struct Sweep {
     /// The last step and the last look.
     most_steps: u64,
     most_looks: u64,
+}
+
+// Dropped by one call: a derived drop is written out at each return.
+impl Drop for Sweep {
+    fn drop(self) {
+        let Sweep {
+            definitions,
+            patterns,
+            window,
+            most_steps,
+            most_looks,
+        } = self;
+    }
 }
 
 impl Solver {

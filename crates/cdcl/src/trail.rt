@@ -15,7 +15,6 @@ pub fn variable_of(literal: u32) -> u32 {
 }
 
 /// The literals that are true, and by variable their levels, reasons and places.
-#[derive(Drop)]
 pub struct Trail {
     /// 1 for a literal that is true, else 0.
     values: Vec<u8>,
@@ -26,6 +25,20 @@ pub struct Trail {
     places: Vec<u32>,
     /// How long the trail was at each decision.
     decisions: Vec<u32>,
+}
+
+// Dropped by one call: a derived drop is written out at each return.
+impl Drop for Trail {
+    fn drop(self) {
+        let Trail {
+            values,
+            literals,
+            levels,
+            reasons,
+            places,
+            decisions,
+        } = self;
+    }
 }
 
 impl Trail {

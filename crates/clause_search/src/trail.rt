@@ -28,10 +28,16 @@ struct Mark {
 ///
 /// `places` has for each assigned variable the position of its literal. A position that is out of
 /// date shows by the entry there, so going back leaves the positions as they are.
-#[derive(Drop)]
 pub struct Trail {
     marks: Vec<Mark>,
     places: Vec<usize>,
+}
+
+// Dropped by one call: a derived drop is written out at each return.
+impl Drop for Trail {
+    fn drop(self) {
+        let Trail { marks, places } = self;
+    }
 }
 
 impl Model for Trail {

@@ -23,10 +23,16 @@ pub struct End {
 }
 
 /// The points so far, and the question for the next one, which excludes the tapes so far.
-#[derive(Drop)]
 pub struct Trail {
     pub question: PointQuestion,
     pub points: Vec<Point>,
+}
+
+// Dropped by one call: a derived drop is written out at each return.
+impl Drop for Trail {
+    fn drop(self) {
+        let Trail { question, points } = self;
+    }
 }
 
 /// The most clauses that a question may learn, where there is a limit.

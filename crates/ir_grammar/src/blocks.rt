@@ -12,7 +12,7 @@ use crate::lists::pushed;
 use ir_items::name_before_colon;
 use ir_lexer::Kind;
 use ir_words::{
-    WrittenBlock, WrittenBlocks, WrittenBody, WrittenLines, WrittenName, WrittenTerminator,
+    Boxed, WrittenBlock, WrittenBlocks, WrittenBody, WrittenLines, WrittenName, WrittenTerminator,
 };
 use support::Sequence;
 use token_forms::ReadFault;
@@ -21,7 +21,7 @@ use token_forms::ReadFault;
 pub const MOST_INSTS: usize = 65_536;
 
 // The lines of a block and its last instruction.
-fn body_of(lines: WrittenLines, terminator: WrittenTerminator) -> WrittenBody
+fn body_of(lines: WrittenLines, terminator: Boxed<WrittenTerminator>) -> WrittenBody
     ensures { result ≡ spec.body_of (lines, terminator) }
 {
     WrittenBody {
@@ -36,7 +36,7 @@ fn with_block(
     so_far: WrittenBlocks,
     label: WrittenName,
     lines: WrittenLines,
-    terminator: WrittenTerminator,
+    terminator: Boxed<WrittenTerminator>,
 ) -> Result<WrittenBlocks, ReadFault>
     ensures { Reads (λ x. x) result [] (reads (spec.with_block so_far label (lines, terminator)) []) }
 {
@@ -54,7 +54,7 @@ fn with_block(
 // Only the entry.
 fn entry_alone(
     lines: WrittenLines,
-    terminator: WrittenTerminator,
+    terminator: Boxed<WrittenTerminator>,
     others: Sequence<WrittenBlock>,
 ) -> WrittenBlocks
     requires { others ≡ [] }
@@ -86,12 +86,13 @@ impl<'a, 'b> Cursor<'a, 'b> {
         &mut self,
         is_new: bool,
         room: usize,
-    ) -> Result<(WrittenLines, WrittenTerminator), ReadFault>
+    ) -> Result<(WrittenLines, Boxed<WrittenTerminator>), ReadFault>
         ensures { Reads (λ x. x) result self.new (read true (spec.block is_new room) self.old) }
     {
         let lines = self.lines(is_new, room)?;
         let word = self.terminator_word(0 < lines.room)?;
         let terminator = self.terminator_by(word)?;
+        let terminator = Boxed::new(self.alloc(), terminator)?;
         self.attachments().and(Ok((lines, terminator)))
     }
 

@@ -209,7 +209,7 @@ fn block(
     let label = number(names, label)?;
     let phis = phis(alloc, names, written_phis)?;
     let insts = insts(alloc, names, written_insts)?;
-    let terminator = terminator(alloc, names, last)?;
+    let terminator = terminator(alloc, names, last.into_inner())?;
     Ok(Block {
         label,
         phis,

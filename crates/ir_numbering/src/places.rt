@@ -307,7 +307,7 @@ fn add_body(places: &mut Sequence<Place>, body: &WrittenBody) -> Result<(), NoMe
 {
     add_phis(places, body.phis.as_slice())?;
     add_insts(places, body.insts.as_slice())?;
-    add_terminator(places, &body.terminator)
+    add_terminator(places, body.terminator.get())
 }
 
 fn add_block(places: &mut Sequence<Place>, block: &WrittenBlock) -> Result<(), NoMemory>

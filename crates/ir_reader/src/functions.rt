@@ -91,13 +91,11 @@ fn test(alloc: Global, f: &Function) -> Result<(), CheckFault>
 }
 
 // The positions of a function's parts take as much memory as the parts, and only a refusal needs them.
-fn without_places(alloc: Global, function: Function) -> Function
+fn without_places(alloc: Global, mut function: Function) -> Function
     ensures { result ≡ spec.without_places function }
 {
-    Function {
-        places: Sequence::from_vec(Vec::new(alloc)),
-        ..function
-    }
+    function.places = Sequence::from_vec(Vec::new(alloc));
+    function
 }
 
 /// The function that the tokens of a define are, its word first, or why it is refused and where

@@ -226,12 +226,23 @@ pub enum Terminator {
 
 /// A block: the number of its label among the function's names, its phis and its other instructions
 /// in order, and how it ends. An entry without a label has the name that the language gives it.
-#[derive(Drop)]
 pub struct Block {
     pub label: usize,
     pub phis: Sequence<Phi>,
     pub insts: Sequence<Inst>,
     pub terminator: Terminator,
+}
+
+// Dropped by one call: a derived drop is written out at each return.
+impl Drop for Block {
+    fn drop(self) {
+        let Block {
+            label,
+            phis,
+            insts,
+            terminator,
+        } = self;
+    }
 }
 
 /// A parameter: its type, whether it is `noundef` and `nonnull`, and the number of its name (LLVM
@@ -247,7 +258,6 @@ pub struct Parameter {
 /// A function with a body; `returns` is nothing for `void`, `returns_no_undef` says that the return
 /// is `noundef`, and the first block is the entry. Parameters, labels and results share one table of
 /// names.
-#[derive(Drop)]
 pub struct Function {
     pub name: Name,
     pub returns: Option<IrType>,
@@ -258,4 +268,19 @@ pub struct Function {
     /// The line and column of each of its types, names, literals and labels, in text order. They
     /// are no part of what the function does.
     pub places: Sequence<Place>,
+}
+
+// Dropped by one call: a derived drop is written out at each return.
+impl Drop for Function {
+    fn drop(self) {
+        let Function {
+            name,
+            returns,
+            returns_no_undef,
+            parameters,
+            blocks,
+            names,
+            places,
+        } = self;
+    }
 }

@@ -268,7 +268,7 @@ pub enum WrittenTerminator {
 pub struct WrittenBody {
     pub phis: Sequence<WrittenPhi>,
     pub insts: Sequence<Boxed<WrittenInst>>,
-    pub terminator: WrittenTerminator,
+    pub terminator: Boxed<WrittenTerminator>,
 }
 
 /// A block after the entry.

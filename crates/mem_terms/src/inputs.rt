@@ -30,11 +30,21 @@ pub struct ByteTerms {
 }
 
 /// One term for each number of a point's code before the tape, in the code's order.
-#[derive(Drop)]
 pub struct InputTerms {
     pub args: Sequence<ArgTerms>,
     pub sizes: Sequence<TermId>,
     pub places: Sequence<Sequence<ByteTerms>>,
+}
+
+// Dropped by one call: a derived drop is written out at each return.
+impl Drop for InputTerms {
+    fn drop(self) {
+        let InputTerms {
+            args,
+            sizes,
+            places,
+        } = self;
+    }
 }
 
 /// One term of 64 bits for each word of a tape.

@@ -23,11 +23,21 @@ use unroll::{Layered, layers};
 
 /// A function, the one with its names in slots that is encoded instead, if there is one, and the
 /// copies of the blocks of what is encoded.
-#[derive(Drop)]
 pub struct Encodable<'m> {
     pub of: &'m Function,
     slotted: Option<Function>,
     layered: Layered,
+}
+
+// Dropped by one call: a derived drop is written out at each return.
+impl<'m> Drop for Encodable<'m> {
+    fn drop(self) {
+        let Encodable {
+            of,
+            slotted,
+            layered,
+        } = self;
+    }
 }
 
 /// What is encoded: the function with slots if there is one, and the function itself otherwise.

@@ -19,7 +19,6 @@ use support::{NoMemory, Sequence};
 /// Terms with a goal that is true where the numbers of the variables are the code of a point that
 /// neither a shift of its tape nor an excluded tape covers. The terms and the goal grow with each
 /// tape.
-#[derive(Drop)]
 pub struct PointQuestion {
     /// The excluded tapes.
     pub tapes: Sequence<Sequence<u64>>,
@@ -31,6 +30,21 @@ pub struct PointQuestion {
     /// The outcome of the target's run.
     target: OutcomeTerms,
     goal: TermId,
+}
+
+// Dropped by one call: a derived drop is written out at each return.
+impl Drop for PointQuestion {
+    fn drop(self) {
+        let PointQuestion {
+            tapes,
+            terms,
+            order,
+            widths,
+            input,
+            target,
+            goal,
+        } = self;
+    }
 }
 
 impl PointQuestion {
@@ -133,7 +147,15 @@ impl PointQuestion {
     pub fn into_tapes(self) -> Sequence<Sequence<u64>>
         ensures { result ≡ self.tapes }
     {
-        let PointQuestion { tapes, .. } = self;
+        let PointQuestion {
+            tapes,
+            terms,
+            order,
+            widths,
+            input,
+            target,
+            goal,
+        } = self;
         tapes
     }
 }

@@ -14,7 +14,6 @@ use verdicts::RunPair;
 
 /// A pair within bounds, what its points look like, both functions as they are encoded, and how many
 /// words a tape of the source has.
-#[derive(Drop)]
 pub struct Subject<'p, 'm> {
     pub pair: &'p RunPair<'m>,
     pub bounds: &'p Bounds,
@@ -22,6 +21,20 @@ pub struct Subject<'p, 'm> {
     pub(crate) source: Encodable<'m>,
     pub(crate) target: Encodable<'m>,
     pub(crate) need: u64,
+}
+
+// Dropped by one call: a derived drop is written out at each return.
+impl<'p, 'm> Drop for Subject<'p, 'm> {
+    fn drop(self) {
+        let Subject {
+            pair,
+            bounds,
+            shape,
+            source,
+            target,
+            need,
+        } = self;
+    }
 }
 
 /// What the points of a pair look like.

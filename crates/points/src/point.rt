@@ -31,10 +31,16 @@ pub struct Input {
 }
 
 /// An input with the target's choices, word by word.
-#[derive(Drop)]
 pub struct Point {
     pub input: Input,
     pub tape: Sequence<u64>,
+}
+
+// Dropped by one call: a derived drop is written out at each return.
+impl Drop for Point {
+    fn drop(self) {
+        let Point { input, tape } = self;
+    }
 }
 
 /// What the memory of an input looks like: how many given blocks there are, and how many bytes each
@@ -56,10 +62,21 @@ impl Layout {
 
 /// What the points of a pair look like: the parameters, the memory, how many words the tape has, and
 /// how many bits a word.
-#[derive(Drop)]
 pub struct Shape {
     pub parameters: Sequence<Parameter>,
     pub layout: Layout,
     pub words: u64,
     pub word_width: Width,
+}
+
+// Dropped by one call: a derived drop is written out at each return.
+impl Drop for Shape {
+    fn drop(self) {
+        let Shape {
+            parameters,
+            layout,
+            words,
+            word_width,
+        } = self;
+    }
 }

@@ -26,7 +26,6 @@ pub struct RunMemory {
 }
 
 /// The state of a run at a point of the function, if the run comes there.
-#[derive(Drop)]
 pub struct RunState {
     /// Whether the run is there, and its behaviour still defined.
     pub alive: TermId,
@@ -38,6 +37,20 @@ pub struct RunState {
     pub tally: Tally,
     /// No run that comes there has read more words.
     pub words_bound: usize,
+}
+
+// Dropped by one call: a derived drop is written out at each return.
+impl Drop for RunState {
+    fn drop(self) {
+        let RunState {
+            alive,
+            path,
+            registers,
+            memory,
+            tally,
+            words_bound,
+        } = self;
+    }
 }
 
 impl RunMemory {

@@ -17,7 +17,6 @@ const MOST_TRIES: u32 = 15;
 const SWEEP_LENGTH: u64 = 2048;
 
 /// A solver, and the literals of the bits that are settled.
-#[derive(Drop)]
 pub struct Asking {
     alloc: Global,
     front: u64,
@@ -25,6 +24,19 @@ pub struct Asking {
     assumed: Vec<Lit>,
     /// The number of the clause of each of these literals.
     numbers: Vec<u64>,
+}
+
+// Dropped by one call: a derived drop is written out at each return.
+impl Drop for Asking {
+    fn drop(self) {
+        let Asking {
+            alloc,
+            front,
+            solver,
+            assumed,
+            numbers,
+        } = self;
+    }
 }
 
 impl Asking {

@@ -44,7 +44,6 @@ enum Turn {
 }
 
 /// The solvers that had a turn, and whose turn it is.
-#[derive(Drop)]
 pub struct Attempts {
     alloc: Global,
     first: Option<Solver>,
@@ -54,6 +53,20 @@ pub struct Attempts {
     length: u64,
     /// How many clauses a search in order learns, times how many there are.
     ordered: u64,
+}
+
+// Dropped by one call: a derived drop is written out at each return.
+impl Drop for Attempts {
+    fn drop(self) {
+        let Attempts {
+            alloc,
+            first,
+            second,
+            turn,
+            length,
+            ordered,
+        } = self;
+    }
 }
 
 impl Attempts {

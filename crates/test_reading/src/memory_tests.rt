@@ -30,17 +30,15 @@ fn arrays(alloc: Global, lengths: &[u64], element: IrType) -> Result<MemoryType,
 fn with_inst(alloc: Global, inst: Inst) -> Result<Function, Fail> {
     let mut insts = Sequence::from_vec(Vec::new(alloc));
     insts.push(inst)?;
-    let mut blocks = Sequence::from_vec(Vec::new(alloc));
-    blocks.push(Block {
+    let mut function = function_of(alloc, "define void @f() { ret void }")?;
+    function.blocks = Sequence::from_vec(Vec::new(alloc));
+    function.blocks.push(Block {
         label: 0,
         phis: Sequence::from_vec(Vec::new(alloc)),
         insts,
         terminator: Terminator::Unreachable,
     })?;
-    Ok(Function {
-        blocks,
-        ..function_of(alloc, "define void @f() { ret void }")?
-    })
+    Ok(function)
 }
 
 fn sites_with(alloc: Global, inst: Inst) -> Result<SiteList, Fail> {

@@ -4,6 +4,7 @@
 use crate::made_functions::function_of;
 use ir_tree::{Block, Function, Inst, Operand, TypedOperand};
 use std::alloc::Global;
+use std::mem::replace;
 use std::test::Fail;
 use support::Sequence;
 
@@ -80,31 +81,20 @@ fn inst_in(inst: Inst) -> Inst {
     }
 }
 
-fn block_in(alloc: Global, block: Block) -> Result<Block, Fail> {
-    let mut insts = Sequence::from_vec(Vec::new(alloc));
-    let Block {
-        label,
-        phis,
-        insts: old,
-        terminator,
-    } = block;
+fn block_in(alloc: Global, mut block: Block) -> Result<Block, Fail> {
+    let old = replace(&mut block.insts, Sequence::from_vec(Vec::new(alloc)));
     for inst in old.into_vec() {
-        insts.push(inst_in(inst))?;
+        block.insts.push(inst_in(inst))?;
     }
-    Ok(Block {
-        label,
-        phis,
-        insts,
-        terminator,
-    })
+    Ok(block)
 }
 
 /// The function of a text, with undef in place of poison.
 pub fn function_in(alloc: Global, text: &str) -> Result<Function, Fail> {
-    let function = function_of(alloc, text)?;
-    let mut blocks = Sequence::from_vec(Vec::new(alloc));
-    for block in function.blocks.into_vec() {
-        blocks.push(block_in(alloc, block)?)?;
+    let mut function = function_of(alloc, text)?;
+    let old = replace(&mut function.blocks, Sequence::from_vec(Vec::new(alloc)));
+    for block in old.into_vec() {
+        function.blocks.push(block_in(alloc, block)?)?;
     }
-    Ok(Function { blocks, ..function })
+    Ok(function)
 }

@@ -13,12 +13,23 @@ use support::NoMemory;
 
 /// The functions of a pair with each use of a register that carries undef written out. A function in
 /// which no register does is shared with the pair, and not copied.
-#[derive(Drop)]
 pub struct LoweredPair<'m> {
     source: &'m Function,
     target: &'m Function,
     lowered_source: Option<Function>,
     lowered_target: Option<Function>,
+}
+
+// Dropped by one call: a derived drop is written out at each return.
+impl<'m> Drop for LoweredPair<'m> {
+    fn drop(self) {
+        let LoweredPair {
+            source,
+            target,
+            lowered_source,
+            lowered_target,
+        } = self;
+    }
 }
 
 impl<'m> Model for LoweredPair<'m> {

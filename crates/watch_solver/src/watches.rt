@@ -84,10 +84,16 @@ pub struct Pair {
 }
 
 /// The watched literals of each clause, and the clauses that watch each literal.
-#[derive(Drop)]
 pub struct Watches {
     pub pairs: Vec<Pair>,
     pub lists: Vec<WatchList>,
+}
+
+// Dropped by one call: a derived drop is written out at each return.
+impl Drop for Watches {
+    fn drop(self) {
+        let Watches { pairs, lists } = self;
+    }
 }
 
 impl Watches {
