@@ -1,5 +1,5 @@
 -- Why the rules of operations bit by bit are right.
-use Rattle.term_rules.proofs.Common.{ap, ℕ, ◌≡◌, ◌<◌, ◌+◌, ◌-◌, ◌^◌, List, length, arith, ◌∙◌, sym, subst, refl, bit_and, bit_or, bit_xor, and_self, or_self, xor_self, or_add_and, xor_add_and, or_zero_r, xor_assoc, xor_zero_r, and_assoc, and_comm, and_mask, and-not, and_or_self, or_comm, pow_pos, xor_comm, mod-eq_of_lt, TermId, Term, Tree, value_of, width_of, AreInRange, IsWidth, term_at, tree_in, weight_of, Form, Built, Known, Simplifies}
+use Rattle.term_rules.proofs.Common.{ap, ℕ, ◌≡◌, ◌<◌, ◌+◌, ◌-◌, ◌^◌, List, length, arith, ◌∙◌, sym, subst, refl, bit_and, bit_or, bit_xor, and_self, or_self, xor_self, or_add_and, xor_add_and, or_zero_r, xor_assoc, xor_zero_r, and_assoc, and_comm, and_mask, and_or_self, or_comm, pow_pos, xor_comm, mod-eq_of_lt, TermId, Term, Tree, value_of, width_of, AreInRange, IsWidth, term_at, tree_in, weight_of, Form, Built, Known, Simplifies}
 use Rattle.bv_terms.specs.declared.term.BinaryOp.TheVariants as op
 use Rattle.bv_terms.specs.declared.term.Term.TheVariants as term
 use Rattle.bv_terms.specs.Tree as tree
@@ -10,14 +10,8 @@ use Rattle.term_rules.proofs.Simplifying.{constant_form, same_tree, simplifies_l
 pub and_ones : (x w : ℕ) → x < 2 ^ w → bit_and x (2 ^ w - 1) ≡ x
 and_ones x w lt = and_mask x w ∙ mod-eq_of_lt lt
 
-pub and_turned : (x w : ℕ) → x < 2 ^ w → bit_and x (2 ^ w - 1 - x) ≡ 0
-and_turned x w lt = and_comm x (2 ^ w - 1 - x) ∙ omega (arith, and-not w x x lt lt, and_self x)
-
 pub or_ones : (x w : ℕ) → x < 2 ^ w → bit_or x (2 ^ w - 1) ≡ 2 ^ w - 1
 or_ones x w lt = omega (arith, or_add_and x (2 ^ w - 1), and_ones x w lt)
-
-pub or_turned : (x w : ℕ) → x < 2 ^ w → bit_or x (2 ^ w - 1 - x) ≡ 2 ^ w - 1
-or_turned x w lt = omega (arith, or_add_and x (2 ^ w - 1 - x), and_turned x w lt, lt)
 
 xor_ones : (x w : ℕ) → x < 2 ^ w → bit_xor x (2 ^ w - 1) ≡ 2 ^ w - 1 - x
 xor_ones x w lt = omega (arith, xor_add_and x (2 ^ w - 1), and_ones x w lt, lt)

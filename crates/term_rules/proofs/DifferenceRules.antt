@@ -5,8 +5,7 @@ use Rattle.std.specs.Prelude.{◌⊎◌}
 use Rattle.bv_terms.specs.declared.term.BinaryOp.TheVariants as op
 use Rattle.bv_terms.specs.declared.term.Term.TheVariants as term
 use Rattle.bv_terms.specs.Tree as tree
-use Rattle.term_rules.specs.Polynomials.{AreTrue, IsDifference, IsDifferenceWhere}
-use Rattle.term_rules.specs.declared.facts.Fact.{Fact}
+use Rattle.term_sums.specs.Polynomials.{IsDifference}
 use Rattle.term_rules.proofs.Simplifying.{constant_form}
 
 -- ---- numbers
@@ -73,21 +72,3 @@ module _ (terms : List Term) (a b : TermId) (same : (v : ℕ → ℕ → ℕ) �
 
   pub equal_are_equal : Simplifies terms (tree.Binary op.Eq (tree_in terms a) (tree_in terms b) (width_of (tree_in terms a))) (Built (term.Constant 1 1))
   equal_are_equal = constant_form terms _ 1 1 (omega arith, omega arith) (lit< tt) refl (λ v. ap digit (eq-eqb (term_at v terms a) (term_at v terms b) (same v)))
-
--- ---- cases
-
--- what holds where a condition is true, and where it is false, holds
-pub by_both : (terms : List Term) (facts holding failing : List Fact) (a b condition : TermId) (n m : ℕ) → n ≡ m
-    → ((v : ℕ → ℕ → ℕ) → AreTrue v terms facts → bit_at v terms condition ≡ true → AreTrue v terms holding)
-    → ((v : ℕ → ℕ → ℕ) → AreTrue v terms facts → bit_at v terms condition ≡ false → AreTrue v terms failing)
-    → IsDifferenceWhere terms holding a b n → IsDifferenceWhere terms failing a b m → IsDifferenceWhere terms facts a b n
-by_both terms facts holding failing a b condition n m same more less first second = record {
-  fits = first.fits;
-  says = λ v hold.
-      let go : (t : Bool) → bit_at v terms condition ≡ t → term_at v terms a ≡ (term_at v terms b + n) % 2 ^ width_of (tree_in terms a) =
-      λ t. elim t as (λ k. bit_at v terms condition ≡ k → term_at v terms a ≡ (term_at v terms b + n) % 2 ^ width_of (tree_in terms a)) [
-        | true ↦ λ e. first.says v (more v hold e)
-        | false ↦ λ e. second.says v (less v hold e) ∙ ap (λ k. (term_at v terms b + k) % 2 ^ width_of (tree_in terms a)) (sym same)
-      ] in
-      go (bit_at v terms condition) refl;
-}

@@ -4,7 +4,8 @@ use Rattle.bv_terms.specs.declared.term.BinaryOp.TheVariants as op
 use Rattle.bv_terms.specs.declared.term.Term.TheVariants as term
 use Rattle.bv_terms.specs.Tree as tree
 use Rattle.term_rules.specs.declared.nested_divisions.Division.{Division}
-use Rattle.term_rules.proofs.MultipleRules.{multiple_and_rest, part-of}
+use Rattle.term_rules.proofs.MultipleRules.{part-of}
+use Rattle.term_sums.proofs.MultipleRules.{multiple_and_rest}
 use Rattle.term_rules.proofs.Simplifying.{constant_form, same_tree}
 use Rattle.term_rules.proofs.Stored.{weight_positive}
 

@@ -7,8 +7,6 @@ pub mod ChoiceRules
 pub mod ComplementRules
 pub mod OrderRules
 pub mod OtherRules
-pub mod PolynomialRules
-pub mod AmountRules
 pub mod DifferenceRules
 pub mod WidthRules
 pub mod FactorRules

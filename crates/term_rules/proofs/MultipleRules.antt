@@ -1,23 +1,11 @@
--- Why a number is its quotient times the divisor, and the remainder.
-use Rattle.term_rules.proofs.Common.{ap, ℕ, ◌≡◌, ◌<◌, ◌+◌, ◌-◌, ◌*◌, ◌/◌, ◌%◌, ◌^◌, Bool, true, false, cond, eqb, List, length, arith, ◌∙◌, sym, subst, refl, eqb-true, div-add-mod', add-mod_right, mod-eq_of_lt, zero-mod, TermId, Term, Tree, quotient, remainder, value_of, width_of, AreInRange, Makes, term_at, tree_in, IsMultiple, IsPart}
+-- Why the rules of multiples are right.
+use Rattle.term_rules.proofs.Common.{ap, ℕ, ◌≡◌, ◌<◌, ◌+◌, ◌-◌, ◌*◌, ◌%◌, ◌^◌, List, length, arith, ◌∙◌, sym, subst, add-mod_right, mod-eq_of_lt, TermId, Term, Tree, quotient, remainder, value_of, width_of, AreInRange, Makes, term_at, tree_in, IsMultiple, IsPart}
 use Rattle.bv_terms.specs.declared.term.BinaryOp.TheVariants as op
 use Rattle.bv_terms.specs.Tree as tree
 use Rattle.term_rules.proofs.Simplifying.{same_tree}
+use Rattle.term_sums.proofs.MultipleRules.{multiple_and_rest}
 
 -- ---- numbers
-
--- also where the divisor is 0: nothing, and the dividend
-pub multiple_and_rest : (w x y : ℕ) → x < 2 ^ w → (quotient w x y * y) % 2 ^ w + remainder x y ≡ x
-multiple_and_rest w x y lt = go (eqb y 0) refl
-  where
-    go : (t : Bool) → eqb y 0 ≡ t → (cond t (2 ^ w - 1) (x / y) * y) % 2 ^ w + cond t x (x % y) ≡ x
-    go true e =
-        let none : (2 ^ w - 1) * y ≡ 0 = ap (λ k. (2 ^ w - 1) * k) (eqb-true y 0 e) ∙ (let z : (2 ^ w - 1) * 0 ≡ 0 = omega arith in z) in
-        ap (λ k. k % 2 ^ w + x) none ∙ (ap (λ k. k + x) (zero-mod (2 ^ w)) ∙ (let z : 0 + x ≡ x = omega arith in z))
-    go false e =
-        let split : x / y * y + x % y ≡ x = div-add-mod' x y in
-        let small : x / y * y < 2 ^ w = omega (arith, split, lt) in
-        ap (λ k. k + x % y) (mod-eq_of_lt small) ∙ split
 
 -- one of two parts is the whole without the other
 pub part-of : (p r x m : ℕ) → p + r ≡ x → x < m → p ≡ (x + (m - r)) % m

@@ -3,7 +3,8 @@ use Rattle.term_rules.proofs.Common.{ap, ℕ, ◌≡◌, ◌<◌, ◌≤◌, ◌
 use Rattle.bv_terms.specs.declared.term.BinaryOp.TheVariants as op
 use Rattle.bv_terms.specs.Tree as tree
 use Rattle.term_rules.specs.declared.signed_divisions.SignedDivision.{SignedDivision}
-use Rattle.term_rules.proofs.MultipleRules.{multiple_and_rest, part-of}
+use Rattle.term_rules.proofs.MultipleRules.{part-of}
+use Rattle.term_sums.proofs.MultipleRules.{multiple_and_rest}
 use Rattle.term_rules.proofs.Simplifying.{same_tree}
 use Rattle.term_rules.proofs.SumRules.{add-cancel}
 

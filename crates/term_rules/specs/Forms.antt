@@ -1,5 +1,5 @@
 -- What it means that a form has the value of a tree, and at most as many nodes.
-use Rattle.std.specs.Prelude.{ℕ, ◌≡◌, ◌⊎◌, ◌<◌, ◌≤◌, ◌+◌, ◌-◌, ◌*◌, ◌/◌, ◌%◌, ◌^◌, Bool, true, cond, List, nat_eq, bit_and, bit_or, bit_xor, length}
+use Rattle.std.specs.Prelude.{ℕ, ◌≡◌, ◌⊎◌, ◌<◌, ◌≤◌, ◌+◌, ◌-◌, ◌*◌, ◌/◌, ◌%◌, ◌^◌, Bool, cond, List, bit_and, bit_or, bit_xor, length}
 use Rattle.bv_terms.specs.declared.term.BinaryOp.TheVariants as op
 use Rattle.bv_terms.specs.declared.term.TermId.{TermId}
 use Rattle.bv_terms.specs.declared.term.Term.{Term}
@@ -7,7 +7,6 @@ use Rattle.bv_terms.specs.Tree as tree
 use Rattle.bv_terms.specs.Tree.{Tree, is_negative, quotient, remainder, value_of, width_of}
 use Rattle.bv_terms.specs.Trees.{AreMatched, IsNoVariable, IsTerm, IsWidth, IsWithin, bit_at, term_at, tree_in, tree_of, trees_of}
 use Rattle.known_values.specs.Weight.{weight_of}
-use Rattle.term_rules.specs.declared.conditions.Equation.{Equation}
 use Rattle.term_rules.specs.declared.factors.Factors.{Factors}
 use Rattle.term_rules.specs.declared.form.Form.{Form}
 use Rattle.term_rules.specs.declared.form.Form.TheVariants.{Built, Divided, Known, Nonzero, Raised, Shifted}
@@ -59,11 +58,6 @@ pub record Simplifies (terms : List Term) (plain : Tree) (form : Form) : Type 0 
   pub says : (v : ℕ → ℕ → ℕ) → value_of v (form_tree terms form) ≡ value_of v plain
   pub least : weight_of (form_tree terms form) ≤ weight_of plain
 
--- the term is this number under each assignment
-pub record IsNumber (terms : List Term) (a : TermId) (n : ℕ) : Type 0 where
-  pub says : (v : ℕ → ℕ → ℕ) → term_at v terms a ≡ n
-  pub fits : n < 2 ^ width_of (tree_in terms a)
-
 -- the second and this are the first under each assignment, added at its width
 pub record IsRest (terms : List Term) (a b rest : TermId) : Type 0 where
   pub within : rest.index < length terms
@@ -84,20 +78,6 @@ pub record IsPart (terms : List Term) (a b whole : TermId) : Type 0 where
   pub wide : width_of (tree_in terms whole) ≡ width_of (tree_in terms a)
   pub says : (v : ℕ → ℕ → ℕ) → term_at v terms a ≡ (term_at v terms whole + (2 ^ width_of (tree_in terms a) - term_at v terms b)) % 2 ^ width_of (tree_in terms a)
   pub least : weight_of (tree_in terms whole) ≤ weight_of (tree_in terms a)
-
--- a term of the width of the second, with fewer nodes, whose conjunction with the first is that of the second
-pub record IsAndPart (terms : List Term) (a b part : TermId) : Type 0 where
-  pub within : part.index < length terms
-  pub wide : width_of (tree_in terms part) ≡ width_of (tree_in terms b)
-  pub says : (v : ℕ → ℕ → ℕ) → bit_and (term_at v terms a) (term_at v terms part) ≡ bit_and (term_at v terms a) (term_at v terms b)
-  pub least : weight_of (tree_in terms part) < weight_of (tree_in terms b)
-
--- a term of the width of the second, with fewer nodes, whose disjunction with the first is that of the second
-pub record IsOrPart (terms : List Term) (a b part : TermId) : Type 0 where
-  pub within : part.index < length terms
-  pub wide : width_of (tree_in terms part) ≡ width_of (tree_in terms b)
-  pub says : (v : ℕ → ℕ → ℕ) → bit_or (term_at v terms a) (term_at v terms part) ≡ bit_or (term_at v terms a) (term_at v terms b)
-  pub least : weight_of (tree_in terms part) < weight_of (tree_in terms b)
 
 -- the first is the product of the second and this under each assignment, at its width
 pub record IsCofactor (terms : List Term) (a common rest : TermId) : Type 0 where
@@ -318,15 +298,7 @@ pub record IsSamePart (terms : List Term) (a : TermId) (from width : ℕ) (inner
   pub says : (v : ℕ → ℕ → ℕ) → term_at v terms inner.a / 2 ^ inner.from % 2 ^ width ≡ term_at v terms a / 2 ^ from % 2 ^ width
   pub least : weight_of (tree_in terms inner.a) ≤ weight_of (tree_in terms a)
 
--- ---- conditions and choices
-
--- where the first is true, the second is this
-pub record Entails (terms : List Term) (c d : TermId) (known : Bool) : Type 0 where
-  pub says : (v : ℕ → ℕ → ℕ) → bit_at v terms c ≡ true → bit_at v terms d ≡ known
-
--- the term is true exactly where the other is this number
-pub record IsEquation (terms : List Term) (a : TermId) (e : Equation) : Type 0 where
-  pub says : (v : ℕ → ℕ → ℕ) → bit_at v terms a ≡ nat_eq e.number (term_at v terms e.term)
+-- ---- choices
 
 -- the term has the width of the other, its value where the condition is this, and at most as many nodes
 pub record IsArm (terms : List Term) (c : TermId) (known : Bool) (a arm : TermId) : Type 0 where

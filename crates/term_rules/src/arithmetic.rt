@@ -5,14 +5,14 @@ ghost use Rattle.bv_terms.specs.declared.term.BinaryOp.TheVariants as op;
 ghost use Rattle.bv_terms.specs.Tree as tree;
 ghost use Rattle.bv_terms.specs.Tree.{width_of};
 ghost use Rattle.bv_terms.specs.Trees.{IsWidth, tree_in};
-ghost use Rattle.term_rules.specs.Forms.{AreOperands, IsNumber, IsPart, IsRest, IsTakenFrom, Simplifies};
+ghost use Rattle.term_rules.specs.Forms.{AreOperands, IsPart, IsRest, IsTakenFrom, Simplifies};
+ghost use Rattle.term_sums.specs.Findings.{IsNumber};
 
-use crate::differences::known_difference;
 use crate::form::Form;
 use crate::multiples::dividend;
-use crate::reading::{are_in_order, number, term};
 use bv_terms::{BinaryOp, Term, TermId, Terms};
 use known_values::numbers;
+use term_sums::{are_in_order, known_difference, number, term};
 
 /// The sum with a number that may be 0.
 fn plus(terms: &Terms, a: TermId, by: u128, width: u32) -> Form

@@ -8,11 +8,10 @@ ghost use Rattle.bv_terms.specs.Trees.{IsTerm, IsWidth, term_at, tree_in};
 ghost use Rattle.term_rules.specs.declared.form.Form.TheVariants.{Known};
 ghost use Rattle.term_rules.specs.Forms.{Simplifies};
 
-use crate::complements::{are_apart, are_whole, left_of_and, left_of_or};
 use crate::form::Form;
-use crate::reading::{are_in_order, number, term};
 use bv_terms::{BinaryOp, Term, TermId, Terms};
 use known_values::numbers::ones;
+use term_sums::{are_apart, are_in_order, are_whole, left_of_and, left_of_or, number, term};
 
 /// Each bit inverted: a second inversion undoes the first.
 pub fn inverse(terms: &Terms, a: TermId) -> Form

@@ -5,9 +5,9 @@ ghost use Rattle.bv_terms.specs.Tree.{is_negative, width_of};
 ghost use Rattle.bv_terms.specs.Trees.{term_at, tree_in};
 ghost use Rattle.term_rules.specs.Forms.{IsReduced};
 
-use crate::reading::{number, term};
 use bv_terms::{BinaryOp, Term, TermId, Terms};
 use known_values::numbers::ones;
+use term_sums::{number, term};
 
 /// How many bits the number surely fits: those that it had before it was widened.
 fn bits_before(terms: &Terms, a: TermId) -> u32

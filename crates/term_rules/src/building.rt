@@ -7,10 +7,10 @@ ghost use Rattle.known_values.specs.Weight.{weight_of};
 ghost use Rattle.term_rules.specs.Forms.{IsApplied, IsForm, AreOperands, form_tree};
 
 use crate::form::Form;
-use crate::reading::{number, numbers};
 use bv_terms::{BinaryOp, Term, TermId, Terms};
 use known_values::numbers::{binary, choice, extended, inverse, joined, part};
 use support::NoMemory;
+use term_sums::{number, numbers};
 
 /// The value of an operation over constants.
 fn folded(terms: &Terms, term: &Term) -> Option<u128>

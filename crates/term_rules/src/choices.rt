@@ -7,11 +7,10 @@ ghost use Rattle.bv_terms.specs.Trees.{bit_at, term_at, tree_in};
 ghost use Rattle.known_values.specs.Weight.{weight_of};
 ghost use Rattle.term_rules.specs.Forms.{IsArm, Simplifies};
 
-use crate::conditions::{known_where_false, known_where_true};
 use crate::equalities::are_equal_terms;
 use crate::form::Form;
-use crate::reading::{number, term};
 use bv_terms::{BinaryOp, Term, TermId, Terms};
+use term_sums::{known_where_false, known_where_true, number, term};
 
 /// How many choices are made, one below the other, by what is known of their conditions.
 const CHOICES: u32 = 64;

@@ -7,9 +7,9 @@ ghost use Rattle.bv_terms.specs.Tree.{width_of};
 ghost use Rattle.bv_terms.specs.Trees.{tree_in};
 ghost use Rattle.term_rules.specs.Wrapping.{HaveOneOrder, IsExactProduct, IsExactQuotient};
 
-use crate::reading::{number, term};
 use crate::wrapping::{Pair, Plain, is_plain};
 use bv_terms::{BinaryOp, Term, TermId, Terms};
+use term_sums::{number, term};
 
 /// A number, and what it is divided or multiplied by.
 #[derive(Clone, Copy)]

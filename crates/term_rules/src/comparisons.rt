@@ -8,13 +8,11 @@ ghost use Rattle.bv_terms.specs.Trees.{tree_in};
 ghost use Rattle.term_rules.specs.Forms.{Simplifies};
 
 use crate::bounds::{has_no_sign, is_below_number, is_remainder_by, is_sum_with, leaves};
-use crate::complements::are_inverse;
-use crate::differences::known_difference;
 use crate::equalities::are_equal_terms;
 use crate::form::Form;
-use crate::reading::{are_in_order, number};
 use bv_terms::{BinaryOp, Term, TermId, Terms};
 use known_values::numbers::digit_of;
+use term_sums::{are_in_order, are_inverse, known_difference, number};
 
 /// Whether two in order are equal.
 fn ordered_equal(terms: &Terms, a: TermId, b: TermId) -> Form

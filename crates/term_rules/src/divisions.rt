@@ -5,15 +5,16 @@ ghost use Rattle.bv_terms.specs.declared.term.BinaryOp.TheVariants as op;
 ghost use Rattle.bv_terms.specs.Tree as tree;
 ghost use Rattle.bv_terms.specs.Tree.{width_of};
 ghost use Rattle.bv_terms.specs.Trees.{IsWidth, tree_in};
-ghost use Rattle.term_rules.specs.Forms.{IsLow, IsNumber, Simplifies};
+ghost use Rattle.term_rules.specs.Forms.{IsLow, Simplifies};
+ghost use Rattle.term_sums.specs.Findings.{IsNumber};
 
 use crate::bounds::{is_below_number, is_remainder_by};
 use crate::form::Form;
 use crate::nested_divisions::{divided_by_number, reduced_by_multiple, whole_of_multiple};
-use crate::reading::{number, term};
 use crate::shrinking::before_widening;
 use bv_terms::{BinaryOp, Term, TermId, Terms};
 use known_values::numbers::ones;
+use term_sums::{number, term};
 
 /// The product of two numbers, if it fits the width.
 fn product_within(a: u128, b: u128, width: u32) -> Option<u128>

@@ -4,9 +4,8 @@ ghost use Rattle.std.specs.Prelude.{◌≡◌, ◌<◌, ℕ, IsTrue, length};
 ghost use Rattle.bv_terms.specs.Tree.{width_of};
 ghost use Rattle.bv_terms.specs.Trees.{term_at, tree_in};
 
-use crate::differences::known_difference;
-use crate::reading::term;
 use bv_terms::{Term, TermId, Terms};
+use term_sums::{known_difference, term};
 
 /// How far down the operands of two terms are compared.
 const DEPTH: u32 = 4;

@@ -8,9 +8,9 @@ ghost use Rattle.term_rules.specs.Forms.{IsCofactor, IsFactored};
 
 use crate::arithmetic::{product, sum};
 use crate::building::build;
-use crate::reading::term;
 use bv_terms::{BinaryOp, Term, TermId, Terms};
 use support::NoMemory;
+use term_sums::term;
 
 /// The common factor of two products, and the other factor of each.
 #[derive(Clone, Copy)]

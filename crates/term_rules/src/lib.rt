@@ -8,8 +8,8 @@
 //! that solvers of bit vectors rewrite by (Bitwuzla, CAV 2023; Z3's rewriter; LLVM's InstCombine).
 //! The divisions of `wrapping` and the comparisons of `comparing` have their value only where a
 //! condition is false, that of poison; a shift of a constant stands for some quotients.
-//! It uses `bv_terms`, and `known_values` for operations on known numbers and for weights; the
-//! encoding of runs uses it.
+//! It uses `bv_terms`, `known_values` for operations on known numbers and for weights, and
+//! `term_sums` for what terms plainly are; the encoding of runs uses it.
 #![tactic(auto)]
 
 mod arithmetic;
@@ -20,22 +20,15 @@ mod building;
 mod choices;
 mod comparing;
 mod comparisons;
-mod complements;
-mod conditions;
-mod differences;
 mod divisions;
 mod equalities;
-mod expanding;
 mod factors;
-mod facts;
 mod form;
 mod low_bits;
 mod magnitudes;
-mod monomials;
 mod multiples;
 mod nested_divisions;
 mod possible;
-mod reading;
 mod shifts;
 mod shrinking;
 mod signed_divisions;

@@ -16,12 +16,12 @@ use crate::building::build;
 use crate::choices::choice;
 use crate::divisions::low_quotient;
 use crate::form::Form;
-use crate::reading::term;
 use crate::widths::{part, widened, widened_signed};
 use crate::{arithmetic, bitwise};
 use bv_terms::{BinaryOp, Term, TermId, Terms};
 use known_values::numbers::cut;
 use support::NoMemory;
+use term_sums::term;
 
 /// An operation whose low bits come from only its operands' low bits.
 #[derive(Clone, Copy)]

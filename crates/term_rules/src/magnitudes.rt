@@ -13,10 +13,10 @@ ghost use Rattle.term_rules.specs.declared.form.Form.TheVariants.{Known};
 use crate::bounds::most;
 use crate::building::build;
 use crate::choices::choice;
-use crate::reading::{number, term};
 use crate::widths::part;
 use bv_terms::{BinaryOp, Term, TermId, Terms};
 use support::NoMemory;
+use term_sums::{number, term};
 
 /// The term whose sign `c` plainly is.
 fn signed_term(terms: &Terms, c: TermId) -> Option<TermId>

@@ -3,8 +3,8 @@
 ghost use Rattle.std.specs.Prelude.{◌<◌, IfSome, IsTrue, length};
 ghost use Rattle.term_rules.specs.Forms.{IsMultiple, IsPart, IsQuotient};
 
-use crate::reading::term;
 use bv_terms::{BinaryOp, Term, TermId, Terms};
+use term_sums::term;
 
 /// Whether the term plainly is the quotient of the two.
 fn is_quotient(terms: &Terms, q: TermId, a: TermId, b: TermId) -> bool

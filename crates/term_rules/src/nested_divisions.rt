@@ -4,8 +4,8 @@ ghost use Rattle.std.specs.Prelude.{◌<◌, IfSome, length};
 ghost use Rattle.term_rules.specs.Forms.{IsDivided, IsReducedFrom, IsWhole};
 
 use crate::multiples::divisor;
-use crate::reading::{number, term};
 use bv_terms::{BinaryOp, Term, TermId, Terms};
+use term_sums::{number, term};
 
 /// A term that is divided by a number other than 0.
 #[derive(Clone, Copy)]

@@ -3,8 +3,8 @@
 ghost use Rattle.std.specs.Prelude.{◌≡◌, ◌<◌, ℕ, IsFalse, false, length, nat_eq};
 ghost use Rattle.bv_terms.specs.Trees.{term_at};
 
-use crate::reading::term;
 use bv_terms::{Term, TermId, Terms};
+use term_sums::term;
 
 /// How many choices, one in an arm of the other, are looked into.
 const DEPTH: u32 = 8;

@@ -9,8 +9,8 @@ ghost use Rattle.term_rules.specs.Forms.{Simplifies};
 
 use crate::bounds::has_no_sign;
 use crate::form::Form;
-use crate::reading::number;
 use bv_terms::{BinaryOp, Term, TermId, Terms};
+use term_sums::number;
 
 /// The first shifted left by the second.
 pub fn left(terms: &Terms, a: TermId, b: TermId) -> Form

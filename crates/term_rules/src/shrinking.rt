@@ -8,12 +8,12 @@ ghost use Rattle.term_rules.specs.Forms.{IsPair, IsShrunk, IsTaken, IsWidened, f
 
 use crate::building::build;
 use crate::form::Form;
-use crate::reading::{number, term};
 use crate::widths::widened;
 use crate::{bitwise, choices, comparisons, divisions};
 use bv_terms::{Term, TermId, Terms};
 use known_values::numbers::ones;
 use support::NoMemory;
+use term_sums::{number, term};
 
 /// Two numbers at the width that the first had before it was widened.
 #[derive(Clone, Copy)]

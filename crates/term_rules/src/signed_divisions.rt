@@ -12,9 +12,9 @@ use crate::choices::choice;
 use crate::divisions;
 use crate::form::Form;
 use crate::magnitudes::is_opposite;
-use crate::reading::term;
 use bv_terms::{BinaryOp, Term, TermId, Terms};
 use support::NoMemory;
+use term_sums::term;
 
 /// The sign of a dividend, its magnitude and that of the divisor.
 #[derive(Clone, Copy)]

@@ -8,8 +8,8 @@ ghost use Rattle.term_rules.specs.Forms.{IsSamePart, Simplifies};
 
 use crate::bounds::{has_no_sign, most};
 use crate::form::Form;
-use crate::reading::{number, term};
 use bv_terms::{Term, TermId, Terms};
+use term_sums::{number, term};
 
 /// How many operations a part is taken through.
 const NESTING: u32 = 32;

@@ -9,10 +9,10 @@ ghost use Rattle.bv_terms.specs.Trees.{IsTerm, Keeps, bit_at, term_at, tree_in};
 ghost use Rattle.term_rules.specs.Wrapping.{AreEqualWhereFalse, IsExactFactor, IsExactShift, IsKept, IsPlain, IsRestWhere};
 
 use crate::builders::{constant, shl, udiv, urem};
-use crate::reading::{numbers, term};
 use crate::shrinking::before_widening;
 use bv_terms::{BinaryOp, Term, TermId, Terms};
 use support::NoMemory;
+use term_sums::{numbers, term};
 
 /// How many nodes of a disjunction are looked at.
 const DISJUNCTS: u32 = 24;

@@ -1,7 +1,7 @@
 -- A variable is one node.
 use Rattle.term_rules.proofs.Common.{ap, arith, weight_of}
 use Rattle.bv_terms.specs.declared.term.Term.TheVariants as term
-use Rattle.term_rules.proofs.Stored.{tree_stored}
+use Rattle.term_sums.proofs.Stored.{tree_stored}
 use Rattle.term_rules.proofs.builders.variable.Goals as goal
 
 pub returns-clause-least : goal.returns-clause-least

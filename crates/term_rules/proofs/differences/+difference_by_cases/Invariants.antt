@@ -1,4 +1,0 @@
-use Rattle.term_rules.proofs.differences.+difference_by_cases.Given as goal
-
-abbrev pub decreases-difference_by_cases : goal.decreases-difference_by_cases
-decreases-difference_by_cases l = l.cases

@@ -1,4 +1,0 @@
-use Rattle.term_rules.proofs.facts.+known_within.Given as goal
-
-abbrev pub decreases-known_within : goal.decreases-known_within
-decreases-known_within l = l.depth
