@@ -20,11 +20,21 @@ use support::{NoMemory, Sequence};
 
 /// A circuit in which terms are built, and the inputs that are the bits of each variable. Contracts
 /// see the gates and the table of bits, in the order in which the variables were added.
-#[derive(Drop)]
 pub struct Blast {
     alloc: Global,
     circuit: Circuit,
     table: IndexMap<Variable, Sequence<GateId>>,
+}
+
+// Dropped by one call: a derived drop is written out at each return.
+impl Drop for Blast {
+    fn drop(self) {
+        let Blast {
+            alloc,
+            circuit,
+            table,
+        } = self;
+    }
 }
 
 impl Model for Blast {

@@ -9,9 +9,15 @@ use std::marker::Model;
 use support::NoMemory;
 
 /// Terms, each once and after those that it names. Contracts see the list of terms.
-#[derive(Drop)]
 pub struct Terms {
     terms: IndexSet<Term>,
+}
+
+// Dropped by one call: a derived drop is written out at each return.
+impl Drop for Terms {
+    fn drop(self) {
+        let Terms { terms } = self;
+    }
 }
 
 impl Model for Terms {
