@@ -64,14 +64,14 @@ def function(width, body):
     return f"define i{width} @f(i{width} %x, i{width} %y) {{\n{lines}\n  ret i{width} %r\n}}\n"
 
 
-def clauses_of(program, folder, source, target, blocks):
-    """The clauses of the pair's last question, with so many given blocks, or none where there was no question."""
+def clauses_of(program, folder, source, target, options):
+    """The clauses of the pair's last question, or none where there was no question."""
     names = [os.path.join(folder, name) for name in ("before.ll", "after.ll")]
     for name, text in zip(names, (source, target)):
         with open(name, "w") as file:
             file.write(text)
     try:
-        done = subprocess.run([program, "check", str(blocks), *names], capture_output=True, text=True, timeout=60)
+        done = subprocess.run([program, "check", *options, "--conflicts", "20000", *names], capture_output=True, text=True, timeout=60)
     except subprocess.TimeoutExpired:
         return None
     return done.stdout or None
@@ -250,14 +250,14 @@ def questions(program, folder, most):
     for size in EXCHANGES:
         yield f"two stores exchanged, {size} bytes", exchange(size)
     for title, width, source, target in IDENTITIES:
-        text = clauses_of(program, folder, function(width, source), function(width, target), 0)
+        text = clauses_of(program, folder, function(width, source), function(width, target), ["--blocks", "0"])
         if text:
             yield f"{title} i{width}", with_widths(text, width)
     if shutil.which("clang-19") and shutil.which("opt-19"):
         seen = {}
         for passes, name, before, after in pairs.made_pairs(folder):
             seen[passes] = seen.get(passes, 0) + 1
-            text = clauses_of(program, folder, before, after, 2) if seen[passes] <= most else None
+            text = clauses_of(program, folder, before, after, []) if seen[passes] <= most else None
             if text:
                 yield f"{name} by {passes}", text
 

@@ -2,8 +2,8 @@
 //!
 //! `gates WIDTH ..` prints how many gates and clauses each operation takes (`bench/gates.py`). `made SEED
 //! FUNCTIONS INSTS` prints a pair of made modules, and `read FILE` the module of a file
-//! (`bench/printed.py`). `check BLOCKS A B` prints the clauses of the last question on the functions of two
-//! files, one in each, in the DIMACS format; `solve FILE` and `ask FILE` read clauses and print whether
+//! (`bench/printed.py`). `check A B ..`, with the options of `tv`, prints the clauses of the last question of
+//! each pair of functions in the DIMACS format; `solve FILE` and `ask FILE` read clauses and print whether
 //! they have a model and how many clauses were learned: by the search in order, and by that of a question
 //! (`bench/solving.py`). It promises nothing; it uses what it asks, and nothing uses it.
 #![tactic(auto)]
@@ -16,12 +16,19 @@ mod pairs;
 use circuits::print_widths;
 use dimacs::Question;
 use modules::{print_made, print_read};
-use pairs::print_question;
+use pair_driver::{Judged, OpenGate};
+use pairs::print_questions;
 use sat_ask::search;
 use std::process::ExitCode;
+use std::thread::Threads;
 use std::{env, fs, io};
 use support::NoMemory;
+use tv_io::{FileShelf, MemorySink, Shelf};
+use tv_run::run;
 use watch_solver::{Answer, solve};
+
+/// The room of the report, which isn't shown.
+const ROOM: usize = 1 << 20;
 
 /// How a question is searched.
 #[derive(Clone, Copy, Debug, PartialEq, Eq)]
@@ -65,14 +72,31 @@ fn answer(rt: &HostRuntime, words: &[String]) -> io::Result<bool> {
             functions.as_str(),
             insts.as_str(),
         )),
-        [_, first, blocks, source, target] if first.as_str() == "check" => {
-            print_question(rt, blocks.as_str(), source.as_str(), target.as_str())
-        }
         [_, first, name] if first.as_str() == "solve" => {
             print_found(rt, name.as_str(), How::InOrder)
         }
         [_, first, name] if first.as_str() == "ask" => print_found(rt, name.as_str(), How::AsAsked),
         _ => Ok(false),
+    }
+}
+
+/// The judge's answers on the pairs that `tv` judges for these words, or `None` where it writes no report.
+fn judged_for<R: AllocGlobal + Threads + Sync, S: Shelf>(
+    rt: &R,
+    shelf: &mut S,
+    words: &[String],
+) -> Option<Vec<Judged>> {
+    let mut report = MemorySink::new(rt.alloc(), ROOM).ok()?;
+    let mut judged = Vec::new(rt.alloc());
+    let status = run(rt, words, shelf, &mut report, &OpenGate, &mut judged);
+    if status <= 3 { Some(judged) } else { None }
+}
+
+/// Prints the questions of these answers, if there are some; whether they were printed.
+fn is_printed(rt: &HostRuntime, judged: Option<Vec<Judged>>) -> bool {
+    match judged {
+        Some(judged) => print_questions(rt, judged.as_slice()).is_ok(),
+        None => false,
     }
 }
 
@@ -85,7 +109,14 @@ fn main(rt: HostRuntime) -> ExitCode {
         return ExitCode::FAILURE;
     };
     let words = words.as_slice();
-    if words.len() < 2 || matches!(answer(&rt, words), Ok(true)) {
+    let is_answered = match words {
+        [] | [_] => true,
+        [_, first, ..] if first.as_str() == "check" => {
+            is_printed(&rt, judged_for(&rt, &mut FileShelf::new(&rt), words))
+        }
+        _ => matches!(answer(&rt, words), Ok(true)),
+    };
+    if is_answered {
         ExitCode::SUCCESS
     } else {
         ExitCode::FAILURE
