@@ -173,7 +173,7 @@ def main():
             else:
                 sums.add(*found)
     if options.files:
-        tvlib.write_whole(options.files, "".join(path + "\n" for path in failed))
+        tvlib.write_out(options.files, "".join(path + "\n" for path in failed))
     shown(sums, failed)
     return 0
 

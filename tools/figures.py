@@ -120,7 +120,7 @@ def main():
     old = tvlib.read_text(PAGE)
     new = renewed(old, True)
     if options.write:
-        tvlib.write_whole(PAGE, new)
+        tvlib.write_out(PAGE, new)
         return 0
     lines = list(difflib.unified_diff(old.splitlines(), new.splitlines(), "docs/TOOLS.md",
                                       "printed now", lineterm="", n=1))

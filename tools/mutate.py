@@ -529,9 +529,9 @@ class Loop:
         name = os.path.join(self.options.keep,
                             f"seed{self.options.seed}-batch{self.batch}-run{self.counts.runs}")
         for text, ending in zip(texts, ("before.ll", "after.ll")):
-            tvlib.write_whole(f"{name}.{ending}", text.encode("latin-1"))
+            tvlib.write_out(f"{name}.{ending}", text.encode("latin-1"))
         words = " ".join(["tv check", *self.runner.options, f"{name}.before.ll", f"{name}.after.ll"])
-        tvlib.write_whole(f"{name}.txt", f"{wrong}\n{words}\n")
+        tvlib.write_out(f"{name}.txt", f"{wrong}\n{words}\n")
         print(f"{wrong}: {name}.before.ll and {name}.after.ll", flush=True)
         if not self.options.go_on:
             raise Stopped

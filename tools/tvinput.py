@@ -22,7 +22,7 @@ NAME_OF_PAIR = re.compile(r'@("?)(src|tgt)(?![a-zA-Z])')
 class Pair:
     """Two modules that are compared: where they are from, and the functions to judge, in a report's
     order. `original` is the module as it is in the file, where `source` was made from it; `fault`
-    says why there are no modules."""
+    says why there are no modules, and `given` has the text on which opt failed."""
     path: str
     other: str
     source: tvir.Module = None
@@ -30,6 +30,7 @@ class Pair:
     names: list = dataclasses.field(default_factory=list)
     original: tvir.Module = None
     fault: str = ""
+    given: str = ""
 
     def place(self, name):
         """Path and line of a function, for messages that point at it; line 0 where it has none."""
@@ -182,6 +183,13 @@ def src_and_tgt(module, path):
     return Pair(path, path, source, target, names, source)
 
 
+def commands(path, made):
+    """A line for the shell that runs opt with these arguments, one after another, on a file."""
+    files = [path] + ["-"] * (len(made) - 1)
+    return " | ".join(shlex.join([tvlib.opt_program(), "-S", *words, file])
+                      for words, file in zip(made, files))
+
+
 def of_opt(path, args, before, lower=False):
     """A file and what opt makes of it, after the passes `before` where there are any."""
     data, made = bytes_of(path), []
@@ -193,10 +201,11 @@ def of_opt(path, args, before, lower=False):
     for words in made:
         done = tvlib.run([tvlib.opt_program(), "-S", *words, "-o", "-", "-"], data, OPT_SECONDS)
         if done.status != 0:
-            why = last_line(done.errors) or f"status {done.status}"
+            why = tvlib.why_failed(done, OPT_SECONDS)
             why += "; the pass as -O2 has it is instcombine<no-verify-fixpoint>" \
                 if "did not reach a fixpoint" in why else ""
-            return Pair(path, path, fault=f"opt {shlex.join(words)}: {why}")
+            why += f"; try: {commands(path, made[:len(texts)])}" if tvlib.is_crash(done) else ""
+            return Pair(path, path, fault=f"opt {shlex.join(words)}: {why}", given=texts[-1])
         data = done.output
         texts.append(text_of(data, path))
     source, target = tvir.Module(texts[-2], path), tvir.Module(texts[-1], path)

@@ -10,7 +10,7 @@ import tvrun
 import tvwhy
 
 COLOURS = {"correct": "32", "same": "32", "incorrect": "1;31", "unknown": "33", "vacuous": "33",
-           "bounded": "33", "failed": "31"}
+           "bounded": "33", "failed": "31", "marked": "33", "alarm": "33"}
 FAINT = "2"
 MEANINGS = {
     "correct": "the target refines the source within the bounds",
@@ -23,7 +23,9 @@ MEANINGS = {
     "signature": "not judged: the types of parameters or of the return differ",
     "missing": "not judged: the target does not define it",
     "extra": "not judged: the source does not define it",
-    "failed": "not judged: tv ended without a report",
+    "failed": "not judged: a program ended without a whole report",
+    "marked": "the target refines the source within the bounds, but a fault may hide",
+    "alarm": "incorrect, but it may be a false alarm",
 }
 
 
@@ -90,8 +92,8 @@ def row_lines(row, function, colours=False):
 
 def plain_lines(row, function, colours=False):
     """A row as the text report has it, without a trace."""
-    kind = painted(row.kind, COLOURS.get(row.kind, FAINT), colours)
-    rest = row.text()[len(f"@{row.name} {row.kind}"):]
+    kind = painted(row.word(), COLOURS.get(row.kind, FAINT), colours)
+    rest = row.text()[len(f"@{row.name} {row.word()}"):]
     return [f"@{row.name} {kind}{rest}", *point_lines(row.lines, function)]
 
 
@@ -113,9 +115,23 @@ def refusals(rows):
 
 # One object a row.
 
+def with_faults(pairs, results):
+    """The rows with one for each fault, of a function without a name, where its pair stands."""
+    rows = {id(pair): [] for pair in pairs}
+    for pair, row in results:
+        rows[id(pair)].append((pair, row))
+    return [each for pair in pairs for each in [
+        *rows[id(pair)], *([(pair, tvrun.Row("", "failed", pair.fault))] if pair.fault else [])]]
+
+
+def function_of(pair, row):
+    """The source's function of a row, None where there is none."""
+    return pair.source.functions.get(row.name) if pair.source else None
+
+
 def object_of(pair, row):
     """A row for JSON; docs/TOOLS.md has the fields."""
-    function = pair.source.functions.get(row.name) if pair.source else None
+    function = function_of(pair, row)
     path, line = pair.place(row.name)
     position = row.position() or (None, None, None)
     return {
@@ -154,13 +170,13 @@ def quoted(text):
 
 def case_of(pair, row):
     """A function as a test case: incorrect fails, failed is an error, what isn't decided or
-    judged is skipped."""
-    head = (f'<testcase classname={quoted(pair.path)} name={quoted("@" + row.name)} '
-            f'time="{row.seconds:.3f}"')
+    judged is skipped. A fault of a module is a case too."""
+    head = (f'<testcase classname={quoted(pair.path)} '
+            f'name={quoted("@" + row.name if row.name else "fault")} time="{row.seconds:.3f}"')
     if row.kind in ("correct", "same"):
         return head + "/>"
-    function = pair.source.functions.get(row.name)
-    body = "\n".join(row_lines(row, function) + ([row.what] if row.what else []))
+    lines = row_lines(row, function_of(pair, row)) if row.name else [row.detail]
+    body = "\n".join(lines + ([row.what] if row.what else []))
     tag = {"incorrect": "failure", "failed": "error"}.get(row.kind, "skipped")
     said = quoted(f"{row.kind}: {MEANINGS[row.kind]}")
     return f"{head}><{tag} message={said}>{escaped(body)}</{tag}></testcase>"
@@ -190,21 +206,20 @@ def junit_of(results):
 
 SCHEMA = "https://json.schemastore.org/sarif-2.1.0.json"
 LEVELS = {"incorrect": "error", "unknown": "warning", "vacuous": "warning", "bounded": "warning",
-          "failed": "warning"}
+          "failed": "error", "marked": "warning", "alarm": "warning"}
 
 
 def result_of(pair, row):
     """A row as a SARIF result, at the function's line, or at the position of an access or a
     refusal where that is in the same file."""
     path, line = pair.place(row.name)
-    function = pair.source.functions.get(row.name)
     region = {"startLine": max(1, line)}
     position = row.position()
     if position and position[0] == "source" and pair.original is pair.source:
         region = {"startLine": position[1], "startColumn": position[2]}
     if position and position[0] == "target" and os.path.isfile(pair.other):
         path, region = pair.other, {"startLine": position[1], "startColumn": position[2]}
-    lines = plain_lines(row, function)
+    lines = plain_lines(row, function_of(pair, row)) if row.name else [row.detail]
     text = "\n".join([f"{lines[0]}: {MEANINGS[row.kind]}", *lines[1:],
                       *filter(None, [row.what, tvwhy.ADVICE.get(row.advice, "")])])
     return {"ruleId": row.kind, "level": LEVELS.get(row.kind, "note"),
@@ -238,8 +253,7 @@ def report_lines(head, groups, colours=False):
         if pair.fault:
             lines.append(f"fault {pair.fault}")
         for row in found:
-            function = pair.source.functions.get(row.name)
-            lines += row_lines(row, function, colours)
+            lines += row_lines(row, function_of(pair, row), colours)
         rows += found
     return [*lines, *refusals(rows), tvrun.counts_line(rows)]
 

@@ -9,7 +9,8 @@ import tvrun
 import tvwhy
 
 COLOURS = {"correct": "good", "same": "same", "incorrect": "bad", "unknown": "open",
-           "vacuous": "open", "bounded": "open", "failed": "open", "refused": "grey",
+           "vacuous": "open", "bounded": "open", "failed": "open", "marked": "open",
+           "alarm": "open", "refused": "grey",
            "signature": "grey", "missing": "grey", "extra": "grey"}
 
 STYLE = """
@@ -161,7 +162,7 @@ def pair(before, after, first=(1, 1), mark=None):
 def section(row, source, target, note=""):
     """A function of a report: row, counterexample, both texts; open where it is incorrect.
     `source` and `target` are the functions, None where a side has none."""
-    opened = " open" if row.kind == "incorrect" else ""
+    opened = " open" if row.kind in ("incorrect", "alarm") else ""
     body = counterexample(row.lines, source) if row.lines else ""
     advice = tvwhy.ADVICE.get(row.advice, "")
     body += f'<p class="faint">{escaped(advice)}</p>' if advice else ""
@@ -175,8 +176,8 @@ def section(row, source, target, note=""):
 
 # A whole report.
 
-FIRST = ["incorrect", "failed", "vacuous", "bounded", "unknown", "refused", "signature", "missing",
-         "extra", "correct", "same"]
+FIRST = ["incorrect", "failed", "alarm", "vacuous", "bounded", "unknown", "marked", "refused",
+         "signature", "missing", "extra", "correct", "same"]
 
 
 def report_page(heads, pairs, rows):

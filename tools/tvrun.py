@@ -14,25 +14,28 @@ import time
 import tvbounds
 import tvir
 import tvlib
+import tvreport
 import tvwhy
 
-KINDS = ["correct", "incorrect", "unknown", "refused", "signature", "missing", "extra"]
-OWN_KINDS = ["same", "vacuous", "bounded", "failed"]
+KINDS, OWN_KINDS, TRACED = tvreport.KINDS, tvreport.OWN_KINDS, tvreport.TRACED
+# The status that a row has by its kind; the lowest decides. docs/TOOLS.md has the table.
+MARKED = 10
 STATUSES = {"incorrect": 1, "unknown": 2, "vacuous": 2, "bounded": 2, "failed": 2,
-            "refused": 3, "signature": 3, "missing": 3, "extra": 3}
-JUDGED = {"same", "correct", "incorrect", "unknown", "vacuous", "bounded"}
-OPTIONS = ["turns", "blocks", "bytes", "rounds", "conflicts", "weight"]
-ROW = re.compile(rf"@({tvir.NAME}) ({'|'.join([*KINDS, *OWN_KINDS])})(?: (.*))?$")
+            "refused": 3, "signature": 3, "missing": 3, "extra": 3, "marked": MARKED, "alarm": MARKED}
+# Kinds of rows that are doubtful: the word of the row without its mark.
+WORDS = {"marked": "correct", "alarm": "incorrect"}
+DOUBTFUL = {word: kind for kind, word in WORDS.items()}
+JUDGED = {"same", "correct", "incorrect", "unknown", "vacuous", "bounded", "marked", "alarm"}
+OPTIONS = list(tvreport.LIMITS)
 REFUSAL = re.compile(r"((?:source|target) \S+ \d+:\d+)(?: (.*))?$")
 POSITION = re.compile(r"(\d+):(\d+)$")
 BOUNDS = re.compile(r" \[((?:[a-z]+ \d+ ?)*)\]$")
-FAULT = re.compile(r"(?:.*/)?(before|after)\.ll:(\d+):(\d+): (.*)")
+FAULT = re.compile(r"(?:.*/)?(before|after)\.ll:(\d+):(\d+): (.*)\n")
 SIDES = {"before": "source", "after": "target"}
 HOW = re.compile(r" by ((?:[-!\w.]+, )*[-!\w.]+)"
                  r"(?:; (?:fault may hide|false alarm possible): (.+))?$")
 MARKS = {"correct": "fault may hide", "bounded": "fault may hide",
          "incorrect": "false alarm possible"}
-TRACED = "    | "
 # Promises of the caller: what a function does can't break them.
 OF_CALLER = re.compile(r"@[^:]*$|arg\d+:(align\(|dereferenceable|writable$|sret$)")
 
@@ -61,14 +64,23 @@ class Row:
         """The row as a line: name, kind, detail, the bounds in brackets, rules and doubts."""
         bounds = " ".join(f"{key} {number}" for key, number in self.bounds.items())
         what = self.what if self.kind == "refused" else ""
-        line = " ".join(filter(None, [f"@{self.name}", self.kind, self.detail, what,
+        line = " ".join(filter(None, [f"@{self.name}", self.word(), self.detail, what,
                                       bounds and f"[{bounds}]",
                                       self.rules and f"by {', '.join(self.rules)}"]))
         return f"{line}; {self.mark()}: {', '.join(self.doubts)}" if self.doubts else line
 
+    def word(self):
+        """The kind as it is printed: of a doubtful row that of the row without its mark."""
+        return WORDS.get(self.kind, self.kind)
+
     def mark(self):
         """What the promises that tv wasn't told of may mean for the row, or an empty text."""
-        return MARKS[self.kind] if self.doubts else ""
+        return MARKS[self.word()] if self.doubts else ""
+
+    def as_doubtful(self):
+        """The row with the kind `marked` or `alarm` where it has doubts."""
+        kind = DOUBTFUL.get(self.kind, self.kind) if self.doubts else self.kind
+        return dataclasses.replace(self, kind=kind)
 
     def whole(self):
         """The row with its lines."""
@@ -90,35 +102,23 @@ class Row:
     def cause(self):
         """Kind and cause without a position: what stays when lines move."""
         kept = self.detail.rsplit(" ", 1)[0] if self.position() else self.detail
-        return f"{self.kind} {kept}".rstrip()
+        doubts = ", ".join(self.doubts) if self.kind in WORDS else ""
+        return " ".join(filter(None, [self.kind, kept, doubts]))
 
 
-def rows_of(report):
-    """The rows of a report of `tv check` or of `tv-check`."""
-    rows, last = [], None
-    for line in report.splitlines():
-        found = ROW.match(line)
-        if found:
-            detail, bounds = found.group(3) or "", {}
-            detail, rules, doubts = how_of(detail)
-            mark = BOUNDS.search(" " + detail)
-            if mark:
-                words = mark.group(1).split()
-                bounds = dict(zip(words[::2], map(int, words[1::2])))
-                detail = detail[:max(0, mark.start() - 1)].rstrip()
-            refusal, what = REFUSAL.match(detail), ""
-            if found.group(2) == "refused" and refusal:
-                detail, what = refusal.groups("")
-            rows.append(Row(found.group(1), found.group(2), detail, bounds=bounds, what=what,
-                            rules=rules, doubts=doubts))
-            last = rows[-1]
-        elif line.startswith(TRACED) and last:
-            last.trace.append(line[len(TRACED):])
-        elif line.startswith("  ") and last:
-            last.lines.append(line)
-        else:
-            last = None
-    return rows
+def row_of(line):
+    """A row of a report (tvreport.Line), with what its text says of bounds, rules and doubts."""
+    detail, rules, doubts = how_of(line.detail)
+    found, bounds = BOUNDS.search(" " + detail), {}
+    if found:
+        words = found.group(1).split()
+        bounds = dict(zip(words[::2], map(int, words[1::2])))
+        detail = detail[:max(0, found.start() - 1)].rstrip()
+    refusal, what = REFUSAL.match(detail), ""
+    if line.kind == "refused" and refusal:
+        detail, what = refusal.groups("")
+    return Row(line.name, line.kind, detail, line.lines, bounds=bounds, what=what, trace=line.trace,
+               rules=rules, doubts=doubts)
 
 
 def how_of(detail):
@@ -145,15 +145,13 @@ def counts_line(rows):
                     if kind in KINDS or number)
 
 
-def status_of(rows):
-    """The status of a report: 1 something is incorrect, 2 something isn't decided, or says
-    nothing, 3 something wasn't judged, else 0."""
-    return min((STATUSES[row.kind] for row in rows if row.kind in STATUSES), default=0)
-
-
-def is_judged(rows):
-    """Whether there is a row that says something of a pair."""
-    return any(row.kind in JUDGED for row in rows)
+def status_of(rows, allowed=()):
+    """The status of a report: that of the row with the lowest, 0 where each is correct or same. Rows
+    of the kinds that are allowed count as correct, and where there is no row nothing was judged."""
+    if not rows:
+        return tvlib.NOTHING
+    return min((STATUSES[row.kind] for row in rows
+                if row.kind in STATUSES and row.kind not in allowed), default=0)
 
 
 # Asking tv.
@@ -173,7 +171,7 @@ def given_bounds(words):
 def check(source, target, seconds, words=()):
     """`tv check` of two files, with more arguments than TV_ARGS has."""
     return tvlib.run([tvlib.tv_program(), "check", *words, *tvlib.tv_args(), source, target],
-                     seconds=seconds, group=True)
+                     seconds=seconds)
 
 
 def check_texts(source, target, seconds, words=()):
@@ -220,24 +218,28 @@ class How:
         return [word for key, number in bounds.items() if key not in given
                 for word in (f"--{key}", str(number))]
 
-    def rows(self, before, after, bounds):
-        """tv's rows on two texts with these bounds, or the failed or timed out row in their
-        place."""
+    def rows(self, before, after, bounds, names):
+        """tv's rows on two texts with these bounds, one for each of the names; or, where it was out
+        of time, gave no report or one that isn't whole, one row that says so."""
         words = [*self.words, *self.added(bounds), *SINGLE]
         done = self.ask(before, after, self.seconds, words)
         if done.status is None:
             return [Row("", "unknown", "time")]
-        output = done.output.decode("utf-8", "surrogateescape")
-        fault = FAULT.match(output)
-        if done.status in range(4):
-            return rows_of(output)
-        if done.status == tvir.NOT_A_MODULE and fault:
+        said = done.output.decode("utf-8", "surrogateescape")
+        fault = FAULT.fullmatch(said)
+        if done.status == tvlib.NOT_A_MODULE and fault:
             reason = fault.group(4).strip().replace(" ", "-")
             return [Row("", "refused", f"{SIDES[fault.group(1)]} {reason} "
                                        f"{fault.group(2)}:{fault.group(3)}")]
-        if done.status in (4, 7):
-            raise tvlib.Failure(done.status, f"tv says: {output.strip() or 'nothing'}")
-        return [Row("", "failed", f"status {done.status}")]
+        if done.status == tvlib.WORDS:
+            raise tvlib.Failure(tvlib.WORDS, f"tv says: {said.strip() or 'nothing'}")
+        if done.status not in range(4):
+            return [Row("", "failed", f"status {done.status}")]
+        try:
+            report = tvreport.report_of(done.output, done.status, names, [*words, *tvlib.tv_args()])
+        except tvreport.BadReport as bad:
+            return [Row("", "failed", bad.why)]
+        return [row_of(line) for line in report.rows]
 
 
 # One thread judges one pair; the report is the same for each number of them.
@@ -257,7 +259,7 @@ def judge(source, target, name, how):
     begun = time.monotonic()
     bounds = tvbounds.fitted(source, target, name, how.given())
     sides = {"source": source.alone(name), "target": target.alone(name)}
-    found = how.rows(sides["source"].text, sides["target"].text, bounds)
+    found = how.rows(sides["source"].text, sides["target"].text, bounds, [name])
     row = dataclasses.replace(found[0], name=name) if len(found) == 1 \
         else Row(name, "failed", f"{len(found)} rows")
     row = placed(row, sides, {"source": source, "target": target})
@@ -265,10 +267,11 @@ def judge(source, target, name, how):
         row = reached(row, source, name, how, bounds)
     if row.kind == "incorrect" and how.traces:
         row.trace = traced(row, sides, how, bounds)
-    return dataclasses.replace(row, seconds=round(time.monotonic() - begun, 3),
-                               bounds=shown_bounds(bounds) if row.kind in JUDGED else {},
-                               rules=rules_of(source, target, name),
-                               doubts=doubts_of(source, target, name, row.kind))
+    row = dataclasses.replace(row, seconds=round(time.monotonic() - begun, 3),
+                              bounds=shown_bounds(bounds) if row.kind in JUDGED else {},
+                              rules=rules_of(source, target, name),
+                              doubts=doubts_of(source, target, name, row.kind))
+    return row.as_doubtful()
 
 
 def rules_of(source, target, name):
@@ -302,7 +305,7 @@ def traced(row, sides, how, bounds):
     report = file_of("report", row.whole())
     words = limits_among([*how.words, *tvlib.tv_args()])
     done = tvlib.run([program, *files, "--function", row.name, "--report", report, *words,
-                      *how.added(bounds)], seconds=how.seconds, group=True)
+                      *how.added(bounds)], seconds=how.seconds)
     lines = done.output.decode("utf-8", "surrogateescape").splitlines()
     begin = next((at for at, line in enumerate(lines) if line.startswith("source,")), len(lines))
     return lines[begin:] if done.status == STATUSES["incorrect"] else []
@@ -356,7 +359,8 @@ def reached(row, source, name, how, bounds):
 def asked(reach, questions, how, bounds):
     """What tv says of each question, `correct` or `incorrect`, and an empty text; or None, and why
     there is no answer."""
-    rows = how.rows(*reach.modules(questions), bounds)
+    names = [f"tv.{number}" for number in range(len(questions))]
+    rows = how.rows(*reach.modules(questions), bounds, names)
     odd = [row for row in rows if row.kind not in ("correct", "incorrect")]
     if odd or len(rows) != len(questions):
         return None, odd[0].detail.split(" ")[-1] if odd and odd[0].kind == "unknown" else "failed"
