@@ -657,8 +657,13 @@ def opt_gate(bench):
     done = bench.run("opt-tv", "-S", "-passes=wrong", ARITH, "-o", "out.ll", TV_GATE="1")
     equal(done.returncode, 1, "status")
     has(done.stderr, "opt-tv: incorrect: @bad_sum; see tv-out/arith.ll-")
-    done = bench.run("opt-tv", "-S", "-passes=double", ARITH, TV_GATE="1")
-    equal(done.returncode, 0, "status of right passes")
+    for allowed, status, wanted in [("", 2, "opt-tv: vacuous: @never, @heavy; see"),
+                                    ("vacuous unknown", 3, "opt-tv: refused: @calls; see"),
+                                    ("vacuous,unknown,refused", 0, ""),
+                                    ("incorrect", 4, "TV_ALLOW=incorrect: no kind of row")]:
+        done = bench.run("opt-tv", "-S", "-passes=double", ARITH, TV_GATE="1", TV_ALLOW=allowed)
+        equal(done.returncode, status, f"status of right passes where {allowed} may pass")
+        has(done.stderr, wanted)
 
 
 def opt_failure_is_passed_on(bench):
@@ -682,7 +687,7 @@ def opt_steps(bench):
 
 
 def opt_not_text(bench):
-    done = bench.run("opt-tv", "-S", "-passes=double", ARITH, "-o", "/dev/null", TV_GATE="1")
+    done = bench.run("opt-tv", "-S", "-passes=double", ARITH, "-disable-output", TV_GATE="1")
     equal(done.returncode, 0, "status")
     has(bench.only("tv-out", ".txt"), "not judged: opt wrote no module")
 
@@ -709,7 +714,7 @@ def opt_judges_nothing(bench):
     args = ("opt-tv", "-S", "-passes=double", "calls.ll")
     done = bench.run(*args, TV_GATE="1")
     equal(done.returncode, 3, "status where all is refused")
-    has(done.stderr, "nothing was judged (correct 0", "refused 1", "--allow-none")
+    has(done.stderr, "opt-tv: refused: @calls; see ", "--allow-none")
     has(bench.only("tv-out", ".before.ll"), "call i8 @outside")
     has(bench.only("tv-out", ".after.ll"), "shl i8 %y, 1")
     for more, variables in (([], {"TV_ALLOW_NONE": "1"}), (["--allow-none"], {})):
@@ -808,7 +813,9 @@ def tree_by_lines(bench):
     bench.run("tv-tree", "do", "--out", "two", "-", data="".join(lines.splitlines(True)[2:]))
     equal(bench.run("tv-tree", "table", "--out", "two").returncode, 1, "status of table")
     done = bench.run("tv-tree", "table", "--out", "two", "--work", "-", data=lines + "more\tp\n")
-    equal((done.returncode, done.stderr), (3, "tv-tree: 1 lines of work aren't done\n"), "lacking")
+    equal((done.returncode, done.stderr), (1, "tv-tree: 1 lines of work aren't done\n"), "lacking")
+    has(bench.file("two", "rows.csv"), "more,p,,failed,not done,")
+    done = bench.run("tv-tree", "table", "--out", "two")
     equal(rows_without_times(bench, "two"), rows_without_times(bench, "one"), "rows")
 
 
@@ -819,7 +826,7 @@ def rows_without_times(bench, folder):
 
 def tree_time_out(bench):
     done = bench.run("tv-tree", "run", SLOW, "-p", "double", "--out", "one", "--seconds", "1")
-    equal(done.returncode, 0, "status")
+    equal(done.returncode, 2, "status")
     has(done.stdout, "1  unknown time")
 
 
@@ -844,7 +851,7 @@ def tree_stopped(bench):
 
 def tree_bad_folder(bench):
     done = bench.run("tv-tree", "run", "nowhere", "-p", "double", "--out", "one")
-    equal((done.returncode, done.stderr), (2, "tv-tree: nowhere: no such folder\n"), "answer")
+    equal((done.returncode, done.stderr), (5, "tv-tree: nowhere: no such folder\n"), "answer")
 
 
 # tv-vacuous, tv-reduce, tv-html, tv-baseline.
@@ -853,10 +860,13 @@ def vacuous_rows(bench):
     bench.write("after.ll", bench.passes("double,wrong", ARITH))
     done = bench.run("tv-vacuous", ARITH, "after.ll")
     equal((done.returncode, done.stdout),
-          (1, "@never vacuous\n@heavy unknown weight\ncorrect 2 vacuous 1 bounded 0 unknown 1\n"),
+          (1, "@bad_sum incorrect\n@never vacuous\n@heavy unknown weight\n"
+              "@calls refused source Unsupported 33:8 call @outside\n"
+              "correct 2 vacuous 1 bounded 0 unknown 1 incorrect 1 refused 1\n"),
           "status and rows")
     done = bench.run("tv-vacuous", NAMES, NAMES)
-    equal((done.returncode, done.stdout), (0, "correct 0 vacuous 0 bounded 0 unknown 0\n"), "none")
+    equal((done.returncode, done.stdout), (0, "correct 0 vacuous 0 bounded 0 unknown 0 same 3\n"),
+          "none")
     equal(bench.run("tv-vacuous", NAMES, "nowhere.ll").returncode, 5, "status without a file")
 
 
@@ -911,7 +921,7 @@ def reduced_with_arguments(bench):
 def nothing_to_reduce(bench):
     done = bench.run("tv-reduce", ARITH, "-f", "twice", "-p", "double", "-o", "out.ll")
     equal((done.returncode, done.stderr),
-          (1, "tv-reduce: nothing to reduce: @twice correct\n"), "answer")
+          (3, "tv-reduce: nothing to reduce: @twice correct\n"), "answer")
     equal(os.path.exists(os.path.join(bench.folder, "out.ll")), False, "a file")
 
 
@@ -938,10 +948,14 @@ def well_formed(page):
     equal(tags.open, [], "open tags at the end")
 
 
+HEAD = "tv 2 turns 4 blocks 2 bytes 8 rounds 64 conflicts 0 weight 100000\n"
+ONE_UNKNOWN = "correct 0 incorrect 0 unknown 1 refused 0 signature 0 missing 0 extra 0\n"
+
+
 def pages(bench):
     bench.write("after.ll", bench.passes("double,wrong", ARITH))
     done = bench.run("tv-html", ARITH, "after.ll")
-    equal((done.returncode, done.stderr), (0, ""), "status")
+    equal((done.returncode, done.stderr), (1, ""), "status")
     well_formed(done.stdout)
     has(done.stdout, "@bad_sum incorrect", "<code>returns 255</code></td><td>-1, 0xff",
         "<mark>call</mark>", "incorrect <strong>1</strong>", "<code>%y</code>", "sha256",
@@ -949,31 +963,45 @@ def pages(bench):
         '<div class="new"><span class="no">+ 10</span>  %r = sub i8')
     equal(re.findall(r'<details id="f-([^"]*)"( open)?', done.stdout)[:2],
           [("bad_sum", " open"), ("never", "")], "the order of the functions")
-    bench.write("report", "tv 2 turns 4\n@twice unknown rounds\n")
-    bench.run("tv-html", ARITH, "after.ll", "--report", "report", "-o", "page.html")
+    args = ("tv-html", ARITH, "after.ll", "--report", "report", "-o", "page.html")
+    bench.write("report", f"{HEAD}@twice unknown rounds\n{ONE_UNKNOWN}")
+    equal(bench.run(*args).returncode, 2, "status of a report")
     has(bench.file("page.html"), "@twice unknown rounds")
+    for text in (f"{HEAD}@twice unknown rounds\n", f"{HEAD}@none unknown rounds\n{ONE_UNKNOWN}",
+                 f"{HEAD}@twice correct\n{ONE_UNKNOWN}"):
+        bench.write("report", text)
+        os.remove(os.path.join(bench.folder, "page.html"))
+        done = bench.run(*args)
+        equal(done.returncode, 2, "status of a report that isn't whole")
+        has(done.stderr, "tv-html: report: ")
+        bench.write("page.html", "")
 
 
 def baseline(bench):
     kinds = ["unknown weight", "correct"]
     for name, a, (b, c), end in [
-            ("old", "refused source Unsupported 3:4", kinds, "correct 1"),
-            ("moved", "refused source Unsupported 9:9", ["correct", "correct"], "correct 2"),
-            ("new", "refused source Limit 3:4", ["unknown weight", "missing"], "correct 0"),
+            ("old", "refused source Unsupported 3:4", kinds, "1 0 1 1 0 0"),
+            ("moved", "refused source Unsupported 9:9", ["correct", "correct"], "2 0 0 1 0 0"),
+            ("new", "refused source Limit 3:4", ["unknown weight", "missing"], "0 0 1 1 0 1"),
             ("wrong", "refused source Unsupported 3:4",
-             ["unknown weight", "incorrect\n  arg 0 = 1\n  source ub"], "correct 0"),
-            ("cut", "correct", kinds, "@d correct")]:
-        bench.write(name, f"tv 2 turns 4\n@a {a}\n@b {b}\n@c {c}\n{end}\n")
+             ["unknown weight", "incorrect\n  arg 0 = 1\n  source returns 0\n  target ub"],
+             "0 1 1 1 0 0"),
+            ("cut", "correct", kinds, None), ("lies", "correct", kinds, "2 1 1 0 0 0")]:
+        last = " ".join(" ".join(each) for each in zip(ONE_UNKNOWN.split()[::2],
+                                                       [*(end or "").split(), "0"]))
+        bench.write(name, f"{HEAD}@a {a}\n@b {b}\n@c {c}\n{last if end else '@d correct'}\n")
+    bench.write("none", HEAD + ONE_UNKNOWN.replace("1", "0"))
     for report, args, status, wanted in [
-            ("old", [], 1, ["new: f @a refused source Unsupported", "new: f @b unknown weight"]),
+            ("old", [], 2, ["new: f @a refused source Unsupported", "new: f @b unknown weight"]),
             ("old", ["--write"], 0, ["rows 3 incorrect 0 new 0 gone 0"]),
             ("old", [], 0, ["rows 3 incorrect 0 new 0 gone 0"]),
             ("moved", [], 0, ["gone: f @b unknown weight", "new 0 gone 1"]),
-            ("new", [], 1, ["new: f @a refused source Limit", "new: f @c missing", "new 2 gone 1"]),
-            ("new", ["--allow", "missing"], 1, ["new 1 gone 1"]),
+            ("new", [], 3, ["new: f @a refused source Limit", "new: f @c missing", "new 2 gone 1"]),
+            ("new", ["--allow", "missing"], 3, ["new 1 gone 1"]),
             ("wrong", [], 1, ["incorrect: f @c incorrect", "new 0 gone 0"]),
             ("wrong", ["--write"], 1, ["incorrect: f @c incorrect"]),
-            ("cut", [], 2, []), ("nowhere", [], 2, [])]:
+            ("old", ["--allow", "incorrect"], 4, []),
+            ("cut", [], 2, []), ("lies", [], 2, []), ("none", [], 3, []), ("nowhere", [], 5, [])]:
         done = bench.run("tv-baseline", "base", report, "--name", "f", *args)
         equal(done.returncode, status, f"status of {report} {args}")
         has(done.stdout, *wanted)
@@ -990,7 +1018,7 @@ def baseline_of_lines(bench):
     bench.write("rows", "".join(lines))
     done = bench.run("tv-baseline", "base", "rows")
     equal((done.returncode, done.stdout),
-          (1, "new: a.c gvn @f refused source Unsupported\nrows 2 incorrect 0 new 1 gone 0\n"),
+          (3, "new: a.c gvn @f refused source Unsupported\nrows 2 incorrect 0 new 1 gone 0\n"),
           "a new row")
     equal(bench.run("tv-baseline", "base", "rows", "--write").returncode, 0, "status of --write")
     for text, said in (("".join(lines[:3]), "the rows of a.c have no end"),
@@ -1020,19 +1048,20 @@ def baseline_of_tree(bench):
 
 def llvm_tree(bench):
     done = bench.run("tv-tree", "run", ARITH, "-p", "instcombine", "--out", "one")
-    equal(done.returncode, 0, "status " + done.stderr)
+    equal(done.returncode, 2, "status " + done.stderr)
     has(done.stdout, "refused source Unsupported call", "vacuous")
 
 
 def llvm_steps(bench):
     done = bench.run("opt-tv", "-S", "-passes=default<O1>", ARITH, "-o", "out.ll", TV_STEPS="1",
-                     TV_GATE="1")
+                     TV_GATE="1", TV_ALLOW="vacuous,unknown,refused")
     equal(done.returncode, 0, "status " + done.stderr)
     has(bench.only("tv-out", ".txt"), "no function went wrong at a step", "instcombine")
 
 
 def llvm_bitcode(bench):
-    done = bench.run("opt-tv", "-passes=instcombine", ARITH, "-o", "out.bc", TV_GATE="1")
+    done = bench.run("opt-tv", "-passes=instcombine", ARITH, "-o", "out.bc", TV_GATE="1",
+                     TV_ALLOW="vacuous,unknown,refused")
     equal(done.returncode, 0, "status")
     has(bench.only("tv-out", ".txt"), "@twice correct")
     done = bench.run("tv-check", "out.bc", "out.bc")
