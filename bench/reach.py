@@ -29,6 +29,7 @@ sys.path.insert(0, os.path.join(os.path.dirname(HERE), "tools"))
 import tvinput
 import tvir
 import tvlib
+import tvreport
 import tvrun
 import tvwhy
 
@@ -78,16 +79,20 @@ def refusals(module, folder):
         file.write(module.text.encode("utf-8", "surrogateescape"))
     done = tvlib.run([tvlib.tv_program(), "check", "--workers", "1", "--weight", "1", path, path],
                      seconds=SECONDS)
-    output = done.output.decode("utf-8", "replace")
     if done.status == tvir.NOT_A_MODULE:
-        found = dict.fromkeys(found, "module: " + output.strip().rsplit(": ", 1)[-1])
+        said = done.output.decode("utf-8", "replace").strip()
+        found = dict.fromkeys(found, "module: " + said.rsplit(": ", 1)[-1])
         # Alone, as tv-check has them, these have no layout.
         for name in found:
             if "layout" in module.noted(name, "tv-rules"):
                 found.update(refusals(tvir.Module(module.alone(name).text), folder))
         return found
-    for row in tvrun.rows_of(output) if done.status is not None else ():
-        name = tvir.canonical(row.name)
+    try:
+        report = tvreport.report_of(done.output, done.status, list(module.functions),
+                                    ["--weight", "1"])
+    except tvreport.BadReport:
+        return found
+    for row, name in zip(map(tvrun.row_of, report.rows), module.functions):
         found[name] = ""
         if row.kind == "refused":
             _, line, column = row.position()

@@ -43,7 +43,7 @@ import time
 
 import tvir
 import tvlib
-import tvrun
+import tvreport
 
 BOUNDS = ["--turns", "1", "--blocks", "1", "--bytes", "2", "--weight", "2000", "--workers", "1"]
 CONFLICTS = 1000
@@ -384,9 +384,7 @@ class Runner:
                 pass
 
 
-ROW = re.compile(r'^@("[^"]*"|[-\w.$]+) (\w+)(?: (.*))?$')
 FAULT = re.compile(r"^.*/(before|after)\.ll:(\d+):\d+: ([a-z ]+)\n$", re.S)
-LAST = re.compile(" ".join(rf"{kind} (\d+)" for kind in tvrun.KINDS) + "$")
 POSITION = re.compile(r"(source|target) (\w+) \d+:\d+$")
 DIFFERENT = {"incorrect", "signature", "missing", "extra"}
 
@@ -394,24 +392,16 @@ DIFFERENT = {"incorrect", "signature", "missing", "extra"}
 def rows_of(status, output):
     """The rows of a report: name, kind, and both with a reason; `Wrong` where its rows, counts and
     status don't agree."""
-    lines, rows = output.split("\n"), []
-    last = LAST.match(lines[-2]) if len(lines) > 2 else None
-    if not last or lines[-1] or not lines[0].startswith("tv 2 turns 1 "):
-        raise Wrong(f"no report: {output[:200]!r}")
-    for line in lines[1:-2]:
-        row = ROW.match(line)
-        if row and row.group(2) in tvrun.KINDS:
-            detail = POSITION.sub(r"\2", row.group(3) or "")
-            rows.append((row.group(1), row.group(2), f"{row.group(2)} {detail}".strip()))
-        elif not line.startswith("  "):
-            raise Wrong(f"no row: {line[:200]!r}")
-    counts = collections.Counter(kind for _, kind, _ in rows)
-    if [counts[kind] for kind in tvrun.KINDS] != [int(count) for count in last.groups()]:
-        raise Wrong(f"other counts: {lines[-2]}")
-    wanted = 1 if counts["incorrect"] else 2 if counts["unknown"] else 3
-    wanted = 0 if len(rows) == counts["correct"] else wanted
-    if status != wanted:
-        raise Wrong(f"status {status}, of this report {wanted}")
+    try:
+        report = tvreport.report_in(output)
+    except tvreport.BadReport as bad:
+        raise Wrong(f"no report: {bad.why}") from None
+    if report.limits["turns"] != 1 or status != tvreport.status_of(report.rows):
+        raise Wrong(f"status {status}, turns {report.limits['turns']}: {output[:200]!r}")
+    rows = []
+    for row in report.rows:
+        reason = POSITION.sub(r"\2", row.detail)
+        rows.append((row.name, row.kind, f"{row.kind} {reason}".strip()))
     return rows
 
 

@@ -50,14 +50,15 @@ def ways_of(name):
 
 def commands(name):
     """Each script on a.ll and b.ll, where the function of this name is the one that changed."""
-    return [["tv-check", "a.ll", "b.ll"], ["tv-check", "a.ll", "b.ll", "--json"],
-            ["tv-check", "--opt", PASSES, "a.ll", "--allow-marks"], ["tv-vacuous", "a.ll", "b.ll"],
-            ["tv-html", "a.ll", "b.ll"], ["tv-tree", "run", "a.ll", "-p", "double,wrong", "--out", "o"],
+    return [["tv-check", "a.ll", "b.ll", "--allow-marks", "--json=rows"],
+            ["tv-vacuous", "a.ll", "b.ll"], ["tv-html", "a.ll", "b.ll"],
+            ["tv-tree", "run", "a.ll", "-p", "double,wrong", "--out", "o"],
             ["opt-tv", "-S", PASSES, "a.ll", "-o", "/dev/stdout"],
             ["tv-reduce", "a.ll", "b.ll", "-f", name, "--row", "correct", "-o", "r.ll"]]
 
 
 def tv_misbehaves(bench, way, on="", scripts=SCRIPTS):
+    """Tries a way with scripts, where the module has a function whose name begins with `on`."""
     text = BAD if way == "lines that it lacks" else GOOD
     name = "bad" if text is BAD else "good"
     bench.write("a.ll", SAME + text)
@@ -70,13 +71,13 @@ def tv_misbehaves(bench, way, on="", scripts=SCRIPTS):
         what = f"{way}: {' '.join(command)}: {done.stdout[-300:]}{done.stderr[-300:]}"
         equal(done.returncode in (2, 3), True, f"status {done.returncode} of {what}")
         has_not(done.stdout + done.stderr, f"@{name} correct", f"@{name} same", "Traceback")
-        if command[0] == "tv-check" and "--json" not in command:
-            rows = re.findall(r"^@(\w+) (\w+)", done.stdout, re.M)
-            equal([row for row, _ in rows], ["same", name], f"rows of {what}")
+        if command[0] == "tv-check":
+            rows = re.findall(r"^@(\w+) \w+", done.stdout, re.M)
+            equal(rows, ["same", name], f"rows of {what}")
             has(done.stdout.splitlines()[-1], "correct 0 ", " same 1")
-        if "--json" in command:
-            rows = [json.loads(line) for line in done.stdout.splitlines()]
+            rows = [json.loads(line) for line in bench.file("rows").splitlines()]
             equal([row["function"] for row in rows], ["same", name], f"objects of {what}")
+            has_not(["same", "correct"], rows[1]["kind"])
         if command[0] == "tv-tree":
             baseline = bench.run("tv-baseline", "none", "o/rows.csv")
             equal(baseline.returncode, 2, f"status of the baseline of {what}")
@@ -85,15 +86,25 @@ def tv_misbehaves(bench, way, on="", scripts=SCRIPTS):
             equal(bench.run("opt-tv", "--summary").returncode, 2, f"status of --summary: {what}")
 
 
+# One reader takes all reports: the ways that are tried with each script are one of each sort.
+EACH = ["killed", "crashed", "hangs", "silent", "cut after the rows", "other name", "two rows",
+        "wrong status", "lies in the last line", "text behind", "wrong bounds"]
+
+
 def each_way_of_tv(bench):
-    for way in ways_of("fake-tv"):
+    for way in EACH:
         tv_misbehaves(bench, way)
 
 
-def no_answer_on_the_reach(bench):
+def more_ways_of_tv(bench):
     for way in ways_of("fake-tv"):
-        if way != "lines that it lacks":
-            tv_misbehaves(bench, way, "tv.", ["tv-check"])
+        if way not in EACH:
+            tv_misbehaves(bench, way, "", ["tv-check"])
+
+
+def no_answer_on_the_reach(bench):
+    for way in EACH:
+        tv_misbehaves(bench, way, "tv.", ["tv-check"])
 
 
 # An opt that misbehaves.
@@ -421,7 +432,7 @@ def nothing_is_left(bench):
         equal(os.listdir(temporary), [], f"files after {command}")
 
 
-CASES = [each_way_of_tv, no_answer_on_the_reach, each_way_of_opt, faults_in_each_form,
+CASES = [each_way_of_tv, more_ways_of_tv, no_answer_on_the_reach, each_way_of_opt, faults_in_each_form,
          nothing_is_no_pass, no_exception_is_0_or_1, output_that_fails, seconds_are_finite,
          marks_have_a_status, cut_reports, names_as_tv_prints_them, same_with_its_items,
          define_without_end, bounds_of_both, comments_with_quotes, outputs_where_they_are,

@@ -333,7 +333,8 @@ class Watcher:
         tempfile.tempdir = self.folder
         self.child = subprocess.Popen(["/bin/sh", "-c", WATCH, "sh", self.folder, self.tag],
                                       stdin=subprocess.PIPE, stdout=subprocess.DEVNULL,
-                                      stderr=subprocess.DEVNULL, start_new_session=True)
+                                      stderr=subprocess.DEVNULL, start_new_session=True,
+                                      env={"PATH": os.defpath})
 
     def end(self):
         """Lets it remove the folder, and waits for that."""
