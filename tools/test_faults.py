@@ -112,23 +112,27 @@ def no_answer_on_the_reach(bench):
 # An opt that misbehaves.
 
 def each_way_of_opt(bench):
+    for way in ways_of("fake-opt"):
+        opt_misbehaves(bench, way)
+
+
+def opt_misbehaves(bench, way):
     bench.write("a.ll", SAME + GOOD)
     bench.write("b.ll", SAME.replace("same", "other"))
-    for way in ways_of("fake-opt"):
-        for command in [["tv-check", "--opt", PASSES, "a.ll", "b.ll"],
-                        ["tv-tree", "run", "a.ll", "b.ll", "-p", "double", "--out", "o"],
-                        ["opt-tv", "-S", "-passes=double", "a.ll", "-o", "out.ll"],
-                        ["opt-tv", "-S", "-passes=double", "a.ll"],
-                        ["tv-reduce", "a.ll", "-f", "good", "-p", "double", "--row", "correct"]]:
-            done = bench.run(*command, TV_OPT=os.path.join(DATA, "fake-opt"), FAKE_OPT=way,
-                             FAKE_OPT_ON="@good", TV_GATE="1", TV_REDUCE="/bin/false")
-            what = f"{way}: {' '.join(command)}: {done.stdout[-400:]}{done.stderr[-400:]}"
-            # opt-tv has the status of an opt that fails.
-            allowed = 1 if command[0] == "opt-tv" and way.startswith("fails") else 2
-            equal(done.returncode >= allowed, True, f"status {done.returncode} of {what}")
-            has_not(done.stdout, "@good correct", "@good same")
-            has_not(done.stderr, "Traceback")
-            shutil.rmtree(os.path.join(bench.folder, "o"), ignore_errors=True)
+    for command in [["tv-check", "--opt", PASSES, "a.ll", "b.ll"],
+                    ["tv-tree", "run", "a.ll", "b.ll", "-p", "double", "--out", "o"],
+                    ["opt-tv", "-S", "-passes=double", "a.ll", "-o", "out.ll"],
+                    ["opt-tv", "-S", "-passes=double", "a.ll"],
+                    ["tv-reduce", "a.ll", "-f", "good", "-p", "double", "--row", "correct"]]:
+        done = bench.run(*command, TV_OPT=os.path.join(DATA, "fake-opt"), FAKE_OPT=way,
+                         FAKE_OPT_ON="@good", TV_GATE="1", TV_REDUCE="/bin/false")
+        what = f"{way}: {' '.join(command)}: {done.stdout[-400:]}{done.stderr[-400:]}"
+        # opt-tv has the status of an opt that fails.
+        allowed = 1 if command[0] == "opt-tv" and way.startswith("fails") else 2
+        equal(done.returncode >= allowed, True, f"status {done.returncode} of {what}")
+        has_not(done.stdout, "@good correct", "@good same")
+        has_not(done.stderr, "Traceback")
+        shutil.rmtree(os.path.join(bench.folder, "o"), ignore_errors=True)
 
 
 def faults_in_each_form(bench):

@@ -62,10 +62,14 @@ class Failure(Exception):
 
 
 class Parser(argparse.ArgumentParser):
-    """A parser whose errors have the status of a wrong command line."""
+    """A parser whose errors have the status of a wrong command line, and whose help fails where it
+    can't be written, which argparse passes over."""
 
     def error(self, message):
         raise Failure(WORDS, message)
+
+    def _print_message(self, message, file=None):
+        (file or sys.stderr).write(message)
 
 
 def start(main):
