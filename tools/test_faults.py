@@ -245,6 +245,10 @@ def marks_have_a_status(bench):
     has(report, "correct 1 incorrect 0 ", " marked 1 alarm 1\n")
     back = [tvrun.row_of(line) for line in tvreport.rows_in(report)]
     equal([row.kind for row in back], ["correct", "marked", "alarm"], "kinds that are read")
+    for row in (marked, alarm, Row("h", "correct", doubts=["x"]).as_doubtful(),
+                Row("i", "bounded", "source load undefined 1:2", bounds={"blocks": 1}, rules=["r"])):
+        line, = tvreport.rows_in(f"tv-check 1 seconds 10\n{row.whole()}{tvrun.counts_line([row])}\n")
+        equal(tvrun.row_of(line), row, "a row that is written and read")
     bench.write("report", report)
     done = bench.run("tv-baseline", "base", "report", "--name", "r")
     equal(done.returncode, 10, "status of new rows with marks")

@@ -465,14 +465,15 @@ def replace(path, data, found):
 def keep_apart(outputs, inputs):
     """Refuses an output that is an input, or another output, under whatever name."""
     read = {identity(path): path for path in inputs}
-    written = {}
+    written = set()
     for path in filter(None, outputs):
         name = identity(path)
+        if name is None:
+            continue
         if name in read or name in written:
             what = f"also read as {read[name]}" if name in read else "written twice"
             raise Failure(WORDS, f"{path} is {what}: give the output another name")
-        if name is not None:
-            written[name] = path
+        written.add(name)
 
 
 def identity(path):

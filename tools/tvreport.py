@@ -193,9 +193,9 @@ def clipped(text):
 # tv-check.
 
 CHECK_HEAD = re.compile(r"tv-check 1 .*")
-CHECK_ROW = re.compile(rf"@({NAME}) ({'|'.join([*KINDS, *OWN_KINDS[:4]])})(?:(?: |(?=,))(.*))?")
+CHECK_ROW = re.compile(rf"@({NAME}) ({'|'.join([*KINDS, *OWN_KINDS[:4]])})(?:(?: |(?=[,;]))(.*))?")
 REFUSED = re.compile(r"refused (\d+), by what is there:")
-MARKED = re.compile(r".* by [^;]*; (fault may hide|false alarm possible): .+")
+MARKED = re.compile(r".*; (fault may hide|false alarm possible): .+")
 MARKED_KINDS = {"correct": "marked", "incorrect": "alarm"}
 
 
@@ -245,7 +245,7 @@ def check_row_in(group):
     if not found:
         raise BadReport(f"no row: {clipped(group[0])}")
     name, kind, detail = found.groups("")
-    if MARKED.fullmatch(" " + detail):
+    if MARKED.fullmatch(detail):
         kind = MARKED_KINDS.get(kind, kind)
     below = [line for line in group[1:] if not line.startswith(TRACED)]
     trace = [line[len(TRACED):] for line in group[1:] if line.startswith(TRACED)]

@@ -32,7 +32,7 @@ POSITION = re.compile(r"(\d+):(\d+)$")
 BOUNDS = re.compile(r" \[((?:[a-z]+ \d+ ?)*)\]$")
 FAULT = re.compile(r"(?:.*/)?(before|after)\.ll:(\d+):(\d+): (.*)\n")
 SIDES = {"before": "source", "after": "target"}
-HOW = re.compile(r" by ((?:[-!\w.]+, )*[-!\w.]+)"
+HOW = re.compile(r"(?: by ((?:[-!\w.]+, )*[-!\w.]+))?"
                  r"(?:; (?:fault may hide|false alarm possible): (.+))?$")
 MARKS = {"correct": "fault may hide", "bounded": "fault may hide",
          "incorrect": "false alarm possible"}
@@ -124,10 +124,8 @@ def row_of(line):
 def how_of(detail):
     """A row's detail without rules and doubts at its end, and these."""
     found = HOW.search(" " + detail)
-    if not found:
-        return detail, [], []
-    return (detail[:max(0, found.start() - 1)], found.group(1).split(", "),
-            found.group(2).split(", ") if found.group(2) else [])
+    rules, doubts = (text.split(", ") if text else [] for text in found.groups())
+    return detail[:max(0, found.start() - 1)], rules, doubts
 
 
 def counts_of(rows):
