@@ -68,7 +68,7 @@ def tv_misbehaves(bench, way, scripts=SCRIPTS, on=None):
         if command[0] not in scripts:
             continue
         done = bench.run(*command, FAKE_TV=way, FAKE_TV_ON=on or name, TV_GATE="1",
-                         TV_TIME="1" if way == "hangs" else "20")
+                         TV_TIME="1" if way == "hangs" else "60")
         what = f"{way}: {' '.join(command)}: {done.stdout[-300:]}{done.stderr[-300:]}"
         equal(done.returncode in (2, 3), True, f"status {done.returncode} of {what}")
         found = re.search(rf"(?m)(^|<code>)@{name} (correct|same)", done.stdout)
@@ -125,7 +125,7 @@ def opt_misbehaves(bench, way):
                     ["opt-tv", "-S", "-passes=double", "a.ll"],
                     ["tv-reduce", "a.ll", "-f", "good", "-p", "double", "--row", "correct"]]:
         done = bench.run(*command, TV_OPT=os.path.join(DATA, "fake-opt"), FAKE_OPT=way,
-                         FAKE_OPT_ON="@good", TV_GATE="1", TV_REDUCE="/bin/false")
+                         FAKE_OPT_ON="@good", TV_GATE="1", TV_REDUCE="/bin/false", TV_TIME="60")
         what = f"{way}: {' '.join(command)}: {done.stdout[-400:]}{done.stderr[-400:]}"
         # opt-tv has the status of an opt that fails.
         allowed = 1 if command[0] == "opt-tv" and way.startswith("fails") else 2

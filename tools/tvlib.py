@@ -1,6 +1,6 @@
 """What the scripts in this folder share: the programs that they run, their children, and files.
-tvir.py has modules as text, tvbounds.py bounds, tvrun.py runs of tv and their rows, tvout.py and
-tvpage.py forms of output.
+tvir.py has modules as text, tvbounds.py bounds, tvreport.py reports, tvrun.py runs of tv and their
+rows, tvout.py and tvpage.py forms of output.
 
 Programs and limits come from the environment, the same for every script:
 
@@ -441,7 +441,7 @@ def status_of_file(path):
     """What the system says of a file; None where there is none."""
     try:
         return os.stat(path)
-    except FileNotFoundError:
+    except (FileNotFoundError, NotADirectoryError):
         return None
 
 
