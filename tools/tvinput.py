@@ -200,8 +200,8 @@ def of_opt(path, args, before, lower=False):
     texts = [original.text]
     for words in made:
         done = tvlib.run([tvlib.opt_program(), "-S", *words, "-o", "-", "-"], data, OPT_SECONDS)
-        if done.status != 0:
-            why = tvlib.why_failed(done, OPT_SECONDS)
+        if done.status != 0 or not (tvir.is_text(done.output) or tvir.is_bitcode(done.output)):
+            why = tvlib.why_failed(done, OPT_SECONDS) if done.status != 0 else "no module"
             why += "; the pass as -O2 has it is instcombine<no-verify-fixpoint>" \
                 if "did not reach a fixpoint" in why else ""
             why += f"; try: {commands(path, made[:len(texts)])}" if tvlib.is_crash(done) else ""
