@@ -183,6 +183,15 @@ def src_and_tgt(module, path):
     return Pair(path, path, source, target, names, source)
 
 
+ITEMS = re.compile(rb"\s*(?:;[^\n]*\n\s*)*(?:[@%$!^]|$|(?:source_filename|target|define|declare|module"
+                   rb"|attributes|uselistorder)\b)")
+
+
+def is_module(data):
+    """Whether what opt wrote is a module, by its first item, rather than a message or nothing."""
+    return tvir.is_bitcode(data) or bool(data.strip()) and bool(ITEMS.match(data))
+
+
 def commands(path, made):
     """A line for the shell that runs opt with these arguments, one after another, on a file."""
     files = [path] + ["-"] * (len(made) - 1)
@@ -200,7 +209,7 @@ def of_opt(path, args, before, lower=False):
     texts = [original.text]
     for words in made:
         done = tvlib.run([tvlib.opt_program(), "-S", *words, "-o", "-", "-"], data, OPT_SECONDS)
-        if done.status != 0 or not (tvir.is_text(done.output) or tvir.is_bitcode(done.output)):
+        if done.status != 0 or not is_module(done.output):
             why = tvlib.why_failed(done, OPT_SECONDS) if done.status != 0 else "no module"
             why += "; the pass as -O2 has it is instcombine<no-verify-fixpoint>" \
                 if "did not reach a fixpoint" in why else ""
