@@ -32,16 +32,17 @@ struct Lowered {
   std::set<std::string> Unused;
 };
 
-/// A global variable: bytes and alignment that its memory has at least, and
-/// whether a store to it is undefined.
+/// A global variable: bytes and alignment that its memory has at least, whether
+/// a store to it is undefined, and a hash of its type and initial value.
 struct Global {
   std::string Name;
+  uint64_t Value = 0;
   uint64_t Bytes = 0;
   uint64_t Alignment = 1;
   bool IsConstant = false;
 
   bool operator==(const Global &Other) const {
-    return Name == Other.Name && Bytes == Other.Bytes &&
+    return Name == Other.Name && Value == Other.Value && Bytes == Other.Bytes &&
            Alignment == Other.Alignment && IsConstant == Other.IsConstant;
   }
 };
@@ -54,7 +55,8 @@ using Globals = std::map<std::string, Global>;
 Globals globalsOf(const llvm::Function &F);
 
 /// The one variable that becomes a parameter of both functions of a pair; none
-/// where they name none, or more than one together.
+/// where they name none, or more than one together, or one that has another
+/// type or initial value on the other side.
 std::optional<Global> globalOf(const Globals &Source, const Globals &Target);
 
 /// Writes a function out, in a module of which it is the only one, with this
