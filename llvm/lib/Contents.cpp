@@ -75,6 +75,14 @@ public:
     finish(/*IsWhole=*/false);
   }
 
+  void addNodes(const MDNode &Node) {
+    Nodes.numberOf(&Node);
+    finish(/*IsWhole=*/false);
+  }
+
+  /// Whether a node was written that is another one than one with its contents.
+  bool HasDistinct = false;
+
   uint64_t hash() {
     OS.flush();
     return xxh3_64bits(Text);
@@ -190,6 +198,7 @@ private:
   }
 
   void addNode(const MDNode &Node) {
+    HasDistinct |= Node.isDistinct();
     OS << "\nnode " << Node.getMetadataID() << ' ' << Node.isDistinct();
     for (const MDOperand &Each : Node.operands())
       addMetadata(Each.get());
@@ -246,4 +255,10 @@ uint64_t tv::valueHash(const GlobalVariable &G) {
   Writer Found;
   Found.addVariable(G);
   return Found.hash();
+}
+
+uint64_t tv::nodeHash(const MDNode &Node) {
+  Writer Found;
+  Found.addNodes(Node);
+  return Found.HasDistinct ? 0 : Found.hash();
 }

@@ -5,6 +5,7 @@
 
 #include "llvm/IR/Function.h"
 #include "llvm/IR/GlobalVariable.h"
+#include "llvm/IR/Metadata.h"
 
 namespace tv {
 
@@ -29,6 +30,10 @@ Hashes hashesOf(const llvm::Function &F);
 /// A hash of the type of a variable, of its initial value and of those of the
 /// variables that this one names. Names of struct types don't count.
 uint64_t valueHash(const llvm::GlobalVariable &G);
+
+/// A hash of a metadata node and all nodes that it reaches; 0 where one of them
+/// is distinct, so that another one with the same contents is not the same.
+uint64_t nodeHash(const llvm::MDNode &Node);
 
 } // namespace tv
 

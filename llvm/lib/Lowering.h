@@ -26,10 +26,14 @@ struct Lowered {
   /// The rules that changed it, in the order of their names.
   std::set<std::string> Rules;
   /// The promises that tv isn't told and that may matter, e.g. `arg0:noalias`,
-  /// `ret:nonnull`, `!tbaa`, `@variable`.
+  /// `ret:nonnull`, `!tbaa`, `@variable`. What follows a `~` says what is alike
+  /// where both functions of a pair have it.
   std::set<std::string> Dropped;
   /// The parameters that it doesn't use.
   std::set<std::string> Unused;
+  /// What tv isn't told, and what matters where one of the two functions has it
+  /// alone: `store~..`, where memory from outside is written, and `header:..`.
+  std::set<std::string> Compared;
 };
 
 /// A global variable: bytes and alignment that its memory has at least, whether
@@ -73,7 +77,8 @@ std::vector<std::string> hiddenFaults(const Lowered &Source,
                                       const Lowered &Target);
 
 /// The pass tv-lower: writes each function of a module out, and notes rules
-/// and promises in its attributes "tv-rules", "tv-dropped" and "tv-unused".
+/// and promises in its attributes "tv-rules", "tv-dropped", "tv-compared" and
+/// "tv-unused".
 /// -tv-pair=FILE names the other module of a pair; without it no variable
 /// becomes a parameter.
 class LowerPass : public llvm::PassInfoMixin<LowerPass> {

@@ -212,6 +212,9 @@ void tv::Observer::report(const Place &At, bool SeesCallers, Seen Source,
   How.Rules.assign(Rules.begin(), Rules.end());
   How.Alarms = falseAlarms(Source.How, Target.How);
   How.Hides = hiddenFaults(Source.How, Target.How);
+  // A row with a mark names a rule.
+  if (Row.Kind == "correct" && How.Rules.empty() && !How.Hides.empty())
+    How.Rules.push_back("compared");
   // A pass that knows all callers may use what they pass.
   if (SeesCallers)
     How.Alarms.push_back("callers");

@@ -169,12 +169,12 @@ def rows_of(bench, path):
 
 def same_row_in_both(bench):
     """The pass by -tv and two modules by tv-check --lower have the same rows. What the source has
-    too is marked, but for what is the caller's."""
+    too is not marked."""
     text = STORES.replace("ptr %p", "ptr noalias align 2 %p", 1)
     before = bench.write("before.ll", text)
     seen = bench.opt(text, "wrong-alias")
     after = bench.write("after.ll", seen.stdout)
-    row = "@stores correct by align, noalias; fault may hide: arg0:noalias, arg1:noalias\n"
+    row = "@stores correct by align, noalias; fault may hide: arg1:noalias\n"
     within(row, bench.run(os.path.join(TOOLS, "tv-check"), "--lower", before, after).stdout,
            "tv-check")
     within(row, seen.stderr, "-tv")
@@ -197,6 +197,28 @@ def layouts(bench):
         if memory:
             within("@stores refused source data-layout", done.stdout, "the row of the stores")
             within("AliasPass @stores refused source data-layout", seen.stderr, "the row")
+    offsets = 'target datalayout = "e-p:64:64:64:32"\n'
+    seen = bench.opt(offsets + SUM + STORES, "wrong-sub,wrong-alias")
+    within("tv: SubtractPass @sum incorrect by layout\n", seen.stderr, "a layout with short offsets")
+    within("call @tv.refuses.datalayout", seen.stderr, "the row of the stores then")
+
+
+CONVENTIONS = """define coldcc i8 @cold(i8 %x) {
+  %s = add i8 %x, 0
+  ret i8 %s
+}
+"""
+
+
+def conventions(bench):
+    """A calling convention that both functions have marks no row; one that one has alone does."""
+    done = bench.opt(CONVENTIONS, "instcombine")
+    within("tv: instcombine @cold correct by header\n", done.stderr, "the row")
+    before = bench.write("before.ll", CONVENTIONS)
+    after = bench.write("after.ll", CONVENTIONS.replace("coldcc ", ""))
+    for sides in ((before, after), (after, before)):
+        done = bench.run(os.path.join(TOOLS, "tv-check"), "--lower", "--no-trace", *sides)
+        within("@cold correct by header; fault may hide: header:coldcc\n", done.stdout, "tv-check")
 
 
 def integers(bench):
@@ -578,7 +600,7 @@ def strange_code(bench):
 
 
 CASES = [pairs_have_their_rows, pairs_are_the_same_backwards, same_row_in_both, lowered_alone,
-         one_variable,
+         one_variable, conventions,
          layouts, wrong_pass_is_found, flags_alone_are_seen, module_pass_is_seen,
          only_named_functions, what_is_reached_is_seen, lying_tv,
          marked_rows_have_their_kind, exits_on_error, report_is_read_by_baseline, pairs_are_kept, slow_pair, failing_tv,
