@@ -24,7 +24,8 @@ const Value *tv::storedOnce(const Value *Variable) {
     if (Store && Store->getPointerOperand() == Variable && !Stored &&
         Store->getValueOperand() != Variable)
       Stored = Store->getValueOperand();
-    else if (!isa<LoadInst>(Each) && !cast<Instruction>(Each)->isLifetimeStartOrEnd())
+    else if (!isa<LoadInst>(Each) &&
+             !cast<Instruction>(Each)->isLifetimeStartOrEnd())
       return nullptr;
   }
   return Stored;

@@ -59,8 +59,8 @@ static bool isFirstLine(StringRef Line) {
   if (Words.size() != 14 || Words[0] != "tv" || Words[1] != "2")
     return false;
   for (size_t At = 2; At < Words.size(); ++At) {
-    StringRef Rest = Words[At].ltrim(At % 2 ? "0123456789"
-                                            : "abcdefghijklmnopqrstuvwxyz");
+    StringRef Rest =
+        Words[At].ltrim(At % 2 ? "0123456789" : "abcdefghijklmnopqrstuvwxyz");
     if (Words[At].empty() || !Rest.empty())
       return false;
   }
@@ -72,8 +72,8 @@ static std::string countsOf(StringRef Only) {
   std::string Line;
   for (StringRef Kind : {"correct", "incorrect", "unknown", "refused",
                          "signature", "missing", "extra"})
-    Line += (Line.empty() ? "" : " ") + Kind.str() +
-            (Kind == Only ? " 1" : " 0");
+    Line +=
+        (Line.empty() ? "" : " ") + Kind.str() + (Kind == Only ? " 1" : " 0");
   return Line;
 }
 
@@ -119,8 +119,8 @@ private:
 
   static Answer failed(int Status, const Twine &Said) {
     std::string Text = Said.str();
-    return row("failed", "status " + Twine(Status) +
-                             (Text.empty() ? "" : ": ") + Text);
+    return row("failed",
+               "status " + Twine(Status) + (Text.empty() ? "" : ": ") + Text);
   }
 
   static int statusOf(StringRef Kind) {
@@ -140,12 +140,11 @@ private:
     auto [Kind, Detail] = Line.substr(Blank).drop_front().split(' ');
     Answer Row = row(Kind, Detail);
     bool IsWhole =
-        Kind == "refused"   ? addWord(Row)
-        : Kind == "unknown" ? Detail == "weight" || Detail == "rounds" ||
-                                  Detail == "conflicts"
-                            : Detail.empty() && (Kind == "correct" ||
-                                                 Kind == "incorrect" ||
-                                                 Kind == "signature");
+        Kind == "refused" ? addWord(Row)
+        : Kind == "unknown"
+            ? Detail == "weight" || Detail == "rounds" || Detail == "conflicts"
+            : Detail.empty() && (Kind == "correct" || Kind == "incorrect" ||
+                                 Kind == "signature");
     return IsWhole ? Row : row("failed", "no row: " + Line);
   }
 

@@ -108,8 +108,8 @@ private:
 
   void addHeader(const Function &F) {
     OS << "\nfunction " << F.getName() << ' ' << F.getCallingConv() << ' '
-       << F.hasExternalWeakLinkage() << ' '
-       << F.getAttributes().getRawPointer() << ' ';
+       << F.hasExternalWeakLinkage() << ' ' << F.getAttributes().getRawPointer()
+       << ' ';
     addType(F.getFunctionType());
     SmallVector<std::pair<unsigned, MDNode *>, 4> Attachments;
     F.getAllMetadata(Attachments);

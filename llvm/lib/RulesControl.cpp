@@ -22,10 +22,9 @@ void tv::lowerHeader(Function &F, Lowered &How) {
   F.setDLLStorageClass(GlobalValue::DefaultStorageClass);
   if (F.getCallingConv() != CallingConv::C &&
       F.getCallingConv() != CallingConv::Fast) {
-    How.Compared.insert(
-        F.getCallingConv() == CallingConv::Cold
-            ? "header:coldcc"
-            : "header:cc" + std::to_string(F.getCallingConv()));
+    How.Compared.insert(F.getCallingConv() == CallingConv::Cold
+                            ? "header:coldcc"
+                            : "header:cc" + std::to_string(F.getCallingConv()));
     F.setCallingConv(CallingConv::C);
     Changes = true;
   }

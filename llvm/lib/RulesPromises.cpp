@@ -101,8 +101,7 @@ bool tv::mayWrite(const Argument &A) {
 
 /// Whether a function cannot break what an attribute of its parameter says.
 static bool cannotBreak(const Argument &A, Attribute::AttrKind Kind,
-                        const PointerUse &Uses,
-                        const tv::Accesses &All) {
+                        const PointerUse &Uses, const tv::Accesses &All) {
   switch (Kind) {
   case Attribute::NoCapture:
     return !Uses.Escapes && !Uses.IsReturned;

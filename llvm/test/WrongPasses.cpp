@@ -65,9 +65,9 @@ struct NarrowPass : PassInfoMixin<NarrowPass> {
     for (Instruction &I : instructions(F))
       if (MDNode *Range = I.getMetadata(LLVMContext::MD_range)) {
         auto *High = mdconst::extract<ConstantInt>(Range->getOperand(1));
-        Range->replaceOperandWith(1, ConstantAsMetadata::get(ConstantInt::get(
-                                         High->getType(),
-                                         High->getZExtValue() - 1)));
+        Range->replaceOperandWith(
+            1, ConstantAsMetadata::get(ConstantInt::get(
+                   High->getType(), High->getZExtValue() - 1)));
       }
     return PreservedAnalyses::none();
   }
