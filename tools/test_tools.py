@@ -592,17 +592,19 @@ def check_bounds(bench):
     done = bench.run("tv-check", "m.ll", "--seconds", "250")
     equal((done.returncode, done.stderr), (1, ""), "status")
     found = dict(re.findall(r"^@(\w+) (.*)$", done.stdout, re.M))
-    equal(found, {"src": "incorrect [blocks 1 bytes 12]",
-                  "src2": "vacuous source store undefined 12:3 [blocks 1]",
+    # the bytes are what is reached and the greatest alignment
+    equal(found, {"src": "incorrect [blocks 1 bytes 16]",
+                  "src2": "vacuous source store undefined 12:3 [blocks 1 bytes 20]",
                   "src3": "bounded source store undefined 25:3 [blocks 1]",
                   "src4": "bounded source load undefined 50:8 [blocks 1]",
                   "src8": "bounded source store unreached 79:3 [blocks 1]",
-                  "src5": "vacuous", "src6": "correct [blocks 1 bytes 20]",
+                  "src5": "vacuous", "src6": "correct [blocks 1 bytes 24]",
                   "src7": "correct",
                   # an access that can't fit doesn't raise the bytes
                   "src9": "bounded source store undefined 124:3 [blocks 1]",
                   # an index that varies counts as 0, past what is constant
-                  "src10": "correct [blocks 1 bytes 18]", "src11": "correct [blocks 1 bytes 12]",
+                  "src10": "incorrect [blocks 1 bytes 20]",
+                  "src11": "incorrect [blocks 1 bytes 14]",
                   "src12": "bounded source store undefined 163:3 [blocks 1]"}, "rows")
     done = bench.run("tv-check", "m.ll", "--seconds", "250", "--bytes", "8", "-f", "src")
     has(done.stdout, "@src vacuous source store undefined 3:3 [blocks 1]\n")

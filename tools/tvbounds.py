@@ -1,8 +1,9 @@
 """Which bounds fit a pair of functions, and which accesses no input within the bounds reaches.
 
 Bounds: what the constants of the two functions say of the offsets at which they read and write
-memory from outside. They only choose the question: a bound that is too small loses inputs, and is
-found by `Reach`; one that is too large costs time.
+memory from outside, and with which alignment: with no byte more, an access could only be at offset
+0, which has each alignment. They only choose the question: a bound that is too small loses inputs,
+and is found by `Reach`; one that is too large costs time.
 
 Reach: `tv` judges a pair for the inputs within the bounds, and says nothing of the target where
 the source is undefined. `Reach` asks tv itself whether the source is ever defined that far.
@@ -14,6 +15,8 @@ import tvir
 
 DEFAULTS = {"turns": 4, "blocks": 2, "bytes": 8}
 LARGEST = {"turns": 64, "blocks": 4, "bytes": 32}
+BLOCK_ALIGN = 16
+ALIGN = re.compile(r", *align (\d+)\b")
 FAR = 256
 MANY = 64
 SCALARS = {"ptr": 8, "half": 2, "bfloat": 2, "float": 4, "double": 8, "fp128": 16}
@@ -75,12 +78,13 @@ def stepped(text, index, named):
 @dataclasses.dataclass
 class Access:
     """A load or a store: the index of its line in the function, the block, the operand of the
-    pointer, and the size in bytes (0 where it isn't known)."""
+    pointer, the size in bytes (0 where it isn't known), and the alignment that it asks for."""
     at: int
     word: str
     block: str
     pointer: str
     size: int
+    align: int
 
 
 def accesses_of(blocks, named):
@@ -92,8 +96,10 @@ def accesses_of(blocks, named):
                 continue
             first = each.operands[0]
             size = layout_of(first if each.word == "load" else first.rsplit(" ", 1)[0], named)
+            written = ALIGN.search(each.rest)
+            align = int(written.group(1)) if written else size[1] if size else 1
             found.append(Access(each.at, each.word, block.name, each.pointer,
-                                size[0] if size else 0))
+                                size[0] if size else 0, align))
     return found
 
 
@@ -227,17 +233,18 @@ class Needs:
 
 def needs_of(module, name, turns):
     """The number of pointers from outside through which the function reads or writes, and the
-    most bytes of a block, up to 32, that accesses at constant offsets reach. A `getelementptr
-    inbounds` counts by its own offset where an access that fits, or a pointer that is returned or
-    stored, is made from it."""
+    most bytes of a block, up to 32, that accesses at constant offsets reach, with the greatest
+    alignment that one of them asks for. A `getelementptr inbounds` counts by its own offset where
+    an access that fits, or a pointer that is returned or stored, is made from it."""
     function = module.functions[name]
     blocks = function.blocks
     values = Values(function, blocks, module.named_types, turns)
-    spans, used, ends = {}, set(), escapes(blocks, values)
+    spans, used, ends, align = {}, set(), escapes(blocks, values), 1
     for access in accesses_of(blocks, module.named_types):
         for root, offset in values.of(access.pointer):
             if root in values.outside:
                 used.add(root)
+                align = max(align, min(access.align, BLOCK_ALIGN))
                 spans.setdefault(root, []).append((offset, offset + access.size))
                 if offset + access.size <= LARGEST["bytes"]:
                     ends.add(access.pointer)
@@ -250,8 +257,9 @@ def needs_of(module, name, turns):
                 for root, offset in values.of(each.result):
                     if root in values.outside:
                         spans.setdefault(root, []).append((offset, offset))
+    reach = max((span(each) for each in spans.values()), default=0)
     return Needs(min(len(used), LARGEST["blocks"]) or (1 if values.outside else 0),
-                 max((span(each) for each in spans.values()), default=0))
+                 min(reach + (align if align > 1 else 0), LARGEST["bytes"]))
 
 
 def makers(blocks):

@@ -265,10 +265,11 @@ def judge(source, target, name, how):
         row = reached(row, source, name, how, bounds)
     if row.kind == "incorrect" and how.traces:
         row.trace = traced(row, sides, how, bounds)
+    doubts = doubts_of(source, target, name, row.kind)
+    rules = rules_of(source, target, name) or (["compared"] if doubts else [])
     row = dataclasses.replace(row, seconds=round(time.monotonic() - begun, 3),
                               bounds=shown_bounds(bounds) if row.kind in JUDGED else {},
-                              rules=rules_of(source, target, name),
-                              doubts=doubts_of(source, target, name, row.kind))
+                              rules=rules, doubts=doubts)
     return row.as_doubtful()
 
 
@@ -278,19 +279,31 @@ def rules_of(source, target, name):
 
 
 def doubts_of(source, target, name, kind):
-    """The promises that tv wasn't told of and that make a row doubtful. One that is missing in the
-    source may make `incorrect` a false alarm, but for a caller's of a parameter that neither
-    function uses. One that is missing in the target may make `correct` hide a fault, but for a
-    caller's, or one of a variable, that the source has too."""
+    """The promises that tv wasn't told of and that make a row doubtful, without what follows their
+    `~`. One that is missing in the source may make `incorrect` a false alarm, but for a caller's of
+    a parameter that neither function uses. One that is missing in the target may make `correct` hide
+    a fault, but for a caller's, one of a variable, or one with a `~`, that the source has too; so
+    may a store, or a word of a header, that one of the two functions has alone."""
+    found = []
     if kind == "incorrect":
         unused = set(source.noted(name, "tv-unused")) & set(target.noted(name, "tv-unused"))
-        return [each for each in source.noted(name, "tv-dropped")
-                if not OF_CALLER.match(each) or each.split(":")[0] not in unused]
-    if kind in MARKS:
+        found = [each for each in source.noted(name, "tv-dropped")
+                 if not OF_CALLER.match(each) or each.split(":")[0] not in unused]
+    elif kind in MARKS:
         shared = set(source.noted(name, "tv-dropped"))
-        return [each for each in target.noted(name, "tv-dropped")
-                if not OF_CALLER.match(each) or each not in shared]
-    return []
+        found = [each for each in target.noted(name, "tv-dropped")
+                 if each not in shared or not OF_CALLER.match(each) and "~" not in each]
+        found += only_one_has(set(source.noted(name, "tv-compared")),
+                              set(target.noted(name, "tv-compared")))
+    return sorted({each.split("~")[0] for each in found})
+
+
+def only_one_has(source, target):
+    """The words of the target that the source doesn't have, neither as they are nor for an offset
+    that isn't known; of headers those of the source too."""
+    anywhere = {each: re.sub(r"\+-?\d+\.", "+?.", each) for each in target}
+    headers = {each for each in source - target if each.startswith("header:")}
+    return {each for each in target if not {each, anywhere[each]} & source} | headers
 
 
 def traced(row, sides, how, bounds):

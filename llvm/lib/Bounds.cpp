@@ -2,7 +2,9 @@
 //
 // tv judges runs on blocks of at most --bytes bytes. A field past the last
 // byte is never defined there, so any target would be correct: the bound has
-// to reach the fields that the two functions use.
+// to reach the fields that the two functions use. With no byte more, an access
+// could only be at offset 0, which has each alignment: so that a wrong one is
+// seen, there are as many bytes more as the greatest alignment that is asked.
 //
 //===----------------------------------------------------------------------===//
 
@@ -23,6 +25,8 @@ using namespace llvm;
 // The largest bounds that tv takes.
 static constexpr unsigned LargestBlocks = 4;
 static constexpr int64_t LargestBytes = 32;
+// That of a given block, which has each smaller one.
+static constexpr Align BlockAlignment = Align::Constant<16>();
 // How many pointers one phi or select may lead to before it is given up.
 static constexpr unsigned Many = 64;
 
@@ -44,18 +48,22 @@ class Reached {
 public:
   explicit Reached(const Function &F) : DL(F.getParent()->getDataLayout()) {}
 
-  void access(const Value *Pointer, int64_t Size) {
+  void access(const Value *Pointer, int64_t Size, Align Asked) {
     SmallPtrSet<const Value *, 16> Seen;
     visit(Pointer, 0, Size, Seen);
+    Alignment = std::max(Alignment, std::min(Asked, BlockAlignment));
   }
 
   tv::Needs needs(bool HasPointers) const {
     tv::Needs Found;
     unsigned Blocks = std::min<unsigned>(Spans.size(), LargestBlocks);
     Found.Blocks = Blocks ? Blocks : HasPointers;
+    int64_t Most = 0;
     for (const auto &[Base, Reach] : Spans)
-      Found.Bytes = std::max<int64_t>(
-          Found.Bytes, std::min(Reach.High - Reach.Low, LargestBytes));
+      Most = std::max(Most, Reach.High - Reach.Low);
+    if (Alignment > Align(1))
+      Most += Alignment.value();
+    Found.Bytes = std::min(Most, LargestBytes);
     return Found;
   }
 
@@ -115,6 +123,7 @@ private:
 
   const DataLayout &DL;
   MapVector<const Value *, Span> Spans;
+  Align Alignment;
 };
 
 } // namespace
@@ -134,7 +143,8 @@ tv::Needs tv::needsOf(const Function &F) {
     if (!Pointer)
       continue;
     TypeSize Size = DL.getTypeStoreSize(accessType(I));
-    Found.access(Pointer, Size.isScalable() ? 0 : Size.getFixedValue());
+    Found.access(Pointer, Size.isScalable() ? 0 : Size.getFixedValue(),
+                 getLoadStoreAlignment(const_cast<Instruction *>(&I)));
   }
   bool HasPointers = any_of(
       F.args(), [](const Argument &A) { return A.getType()->isPointerTy(); });

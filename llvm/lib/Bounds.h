@@ -17,8 +17,9 @@ struct Needs {
 };
 
 /// The number of pointers from outside through which a function reads or
-/// writes, and the most bytes that its accesses at constant offsets reach, as
-/// far as tv has bounds for them. An index that varies counts as 0.
+/// writes, and the most bytes that its accesses at constant offsets reach, with
+/// the greatest alignment that one of them asks for, as far as tv has bounds
+/// for them. An index that varies counts as 0.
 Needs needsOf(const llvm::Function &F);
 
 } // namespace tv

@@ -46,12 +46,12 @@ tv::Needs tv::Checker::boundsOf(const Side &Source, const Side &Target) const {
 /// every input within the bounds, any target is correct.
 Answer tv::Checker::reached(Answer Row, const Side &Source,
                             const Needs &Bounds) {
-  Side Nowhere = {withoutBody(Source.Text), Source.Memory};
+  Side Nowhere = {withoutBody(Source.Text), Source.Name, Source.Memory};
   Answer Found = ask(Source, Nowhere, Bounds);
   if (Found.Kind == "correct")
     return row("vacuous");
   if (Found.Kind != "incorrect")
-    return row("unknown",
+    return row(Found.Kind == "failed" ? "failed" : "unknown",
                "reach " + (Found.Detail.empty() ? Found.Kind : Found.Detail));
   return Row;
 }

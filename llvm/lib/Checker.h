@@ -23,6 +23,8 @@ namespace tv {
 struct Side {
   /// A module with this function alone.
   std::string Text;
+  /// The function as LLVM prints its name, with `@`.
+  std::string Name;
   /// What it asks of the given memory.
   Needs Memory;
 };

@@ -17,9 +17,14 @@ using namespace llvm;
 // Data layouts
 //===----------------------------------------------------------------------===//
 
-/// Whether tv reads modules with this layout.
-static bool isReadLayout(const DataLayout &DL) {
-  return DL.isLittleEndian() && DL.getPointerSizeInBits(0) == 64;
+/// Whether tv reads modules with this layout as they are meant: pointers and
+/// offsets of 64 bits, and numbers with as many bytes as their bits need.
+static bool isReadLayout(const DataLayout &DL, LLVMContext &Context) {
+  bool HasSizes = all_of(ArrayRef({8u, 16u, 32u, 64u}), [&](unsigned Bits) {
+    return DL.getTypeAllocSizeInBits(Type::getIntNTy(Context, Bits)) == Bits;
+  });
+  return DL.isLittleEndian() && DL.getPointerSizeInBits(0) == 64 &&
+         DL.getIndexSizeInBits(0) == 64 && HasSizes;
 }
 
 /// Whether a function has neither pointers nor memory, so that no layout says
@@ -38,9 +43,18 @@ static bool usesNoMemory(const Function &F) {
   });
 }
 
-/// Whether a function has a layout that tv does not read, and needs none.
-static bool isFreeOfLayout(const Function &F) {
-  return !isReadLayout(F.getParent()->getDataLayout()) && usesNoMemory(F);
+/// What tv would take for what it knows, where a function is another one.
+static void lowerMeanings(Function &F, tv::Lowered &How) {
+  bool IsRead = isReadLayout(F.getParent()->getDataLayout(), F.getContext());
+  bool NeedsNone = usesNoMemory(F);
+  if (!IsRead && NeedsNone)
+    How.Rules.insert("layout");
+  if (!IsRead && !NeedsNone)
+    tv::refuse(F, "datalayout", How);
+  if (F.nullPointerIsDefined() && !NeedsNone)
+    tv::refuse(F, "null_pointer_is_valid", How);
+  if (F.hasFnAttribute(Attribute::Naked))
+    tv::refuse(F, "naked", How);
 }
 
 //===----------------------------------------------------------------------===//
@@ -61,8 +75,7 @@ static tv::Lowered lowerBody(Function *&Whole,
   tv::lowerIntegers(F, How);
   tv::lowerAssumes(F, How);
   tv::lowerMemory(F, How);
-  if (isFreeOfLayout(F))
-    How.Rules.insert("layout");
+  lowerMeanings(F, How);
   return How;
 }
 
@@ -125,6 +138,7 @@ PreservedAnalyses tv::LowerPass::run(Module &M, ModuleAnalysisManager &) {
   for (auto &[F, How] : All)
     for (auto [Name, Words] : {std::pair("tv-rules", &How.Rules),
                                std::pair("tv-dropped", &How.Dropped),
+                               std::pair("tv-compared", &How.Compared),
                                std::pair("tv-unused", &How.Unused)})
       if (!Words->empty())
         F->addFnAttr(Name, joined(*Words));
@@ -134,6 +148,19 @@ PreservedAnalyses tv::LowerPass::run(Module &M, ModuleAnalysisManager &) {
 //===----------------------------------------------------------------------===//
 // What a missing promise may do to a verdict
 //===----------------------------------------------------------------------===//
+
+/// A word without what follows its `~`.
+static StringRef promiseOf(StringRef Word) { return Word.split('~').first; }
+
+/// Whether the function of a pair that has these words has one of a kind: the
+/// same, or a store at an offset that isn't known.
+static bool has(const std::set<std::string> &Words, const std::string &Word) {
+  if (Words.count(Word))
+    return true;
+  auto [Front, Back] = StringRef(Word).rsplit('+');
+  return Front != Word &&
+         Words.count((Front + "+?." + Back.rsplit('.').second).str());
+}
 
 /// Whether a promise is one of the caller, or of a variable that has its
 /// address before the function runs: the function itself can't break it.
@@ -148,24 +175,32 @@ static bool isOfCaller(StringRef Promise) {
 
 std::vector<std::string> tv::falseAlarms(const Lowered &Source,
                                          const Lowered &Target) {
-  std::vector<std::string> Found;
+  std::set<std::string> Found;
   for (const std::string &Each : Source.Dropped) {
     // What neither function uses can be another value in a counterexample.
     std::string Number = StringRef(Each).split(':').first.str();
     if (!isOfCaller(Each) || !Source.Unused.count(Number) ||
         !Target.Unused.count(Number))
-      Found.push_back(Each);
+      Found.insert(promiseOf(Each).str());
   }
-  return Found;
+  return {Found.begin(), Found.end()};
 }
 
 std::vector<std::string> tv::hiddenFaults(const Lowered &Source,
                                           const Lowered &Target) {
-  std::vector<std::string> Found;
-  for (const std::string &Each : Target.Dropped)
+  std::set<std::string> Found;
+  for (const std::string &Each : Target.Dropped) {
     // Where the caller breaks a promise that both have, the source allows
-    // everything.
-    if (!isOfCaller(Each) || !Source.Dropped.count(Each))
-      Found.push_back(Each);
-  return Found;
+    // everything. Another one counts as kept where the source has the same.
+    bool IsShared = isOfCaller(Each) || promiseOf(Each) != Each;
+    if (!IsShared || !Source.Dropped.count(Each))
+      Found.insert(promiseOf(Each).str());
+  }
+  for (const std::string &Each : Target.Compared)
+    if (!has(Source.Compared, Each))
+      Found.insert(promiseOf(Each).str());
+  for (const std::string &Each : Source.Compared)
+    if (StringRef(Each).starts_with("header:") && !Target.Compared.count(Each))
+      Found.insert(promiseOf(Each).str());
+  return {Found.begin(), Found.end()};
 }

@@ -26,22 +26,27 @@ struct Lowered {
   /// The rules that changed it, in the order of their names.
   std::set<std::string> Rules;
   /// The promises that tv isn't told and that may matter, e.g. `arg0:noalias`,
-  /// `ret:nonnull`, `!tbaa`, `@variable`.
+  /// `ret:nonnull`, `!tbaa`, `@variable`. What follows a `~` says what is alike
+  /// where both functions of a pair have it.
   std::set<std::string> Dropped;
   /// The parameters that it doesn't use.
   std::set<std::string> Unused;
+  /// What tv isn't told, and what matters where one of the two functions has it
+  /// alone: `store~..`, where memory from outside is written, and `header:..`.
+  std::set<std::string> Compared;
 };
 
-/// A global variable: bytes and alignment that its memory has at least, and
-/// whether a store to it is undefined.
+/// A global variable: bytes and alignment that its memory has at least, whether
+/// a store to it is undefined, and a hash of its type and initial value.
 struct Global {
   std::string Name;
+  uint64_t Value = 0;
   uint64_t Bytes = 0;
   uint64_t Alignment = 1;
   bool IsConstant = false;
 
   bool operator==(const Global &Other) const {
-    return Name == Other.Name && Bytes == Other.Bytes &&
+    return Name == Other.Name && Value == Other.Value && Bytes == Other.Bytes &&
            Alignment == Other.Alignment && IsConstant == Other.IsConstant;
   }
 };
@@ -54,7 +59,8 @@ using Globals = std::map<std::string, Global>;
 Globals globalsOf(const llvm::Function &F);
 
 /// The one variable that becomes a parameter of both functions of a pair; none
-/// where they name none, or more than one together.
+/// where they name none, or more than one together, or one that has another
+/// type or initial value on the other side.
 std::optional<Global> globalOf(const Globals &Source, const Globals &Target);
 
 /// Writes a function out, in a module of which it is the only one, with this
@@ -71,7 +77,8 @@ std::vector<std::string> hiddenFaults(const Lowered &Source,
                                       const Lowered &Target);
 
 /// The pass tv-lower: writes each function of a module out, and notes rules
-/// and promises in its attributes "tv-rules", "tv-dropped" and "tv-unused".
+/// and promises in its attributes "tv-rules", "tv-dropped", "tv-compared" and
+/// "tv-unused".
 /// -tv-pair=FILE names the other module of a pair; without it no variable
 /// becomes a parameter.
 class LowerPass : public llvm::PassInfoMixin<LowerPass> {

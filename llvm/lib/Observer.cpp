@@ -1,9 +1,9 @@
 //===- Observer.cpp - Sees each pass, and has what it changed checked -----===//
 //
-// A function is hashed before and after each pass that may change it. Only
-// where the hash differs is it copied, printed and compared with the text that
-// is kept from the last change; so a function that no pass changes costs its
-// hashes and one text.
+// A function is hashed with all that it reaches before and after each pass that
+// may change it. Only where a hash differs is it copied, printed and compared
+// with the text that is kept from the last change; so a function that no pass
+// changes costs its hashes and one text.
 //
 // Functions are known by name. One that a pass deletes has no row, nor has one
 // that it makes: there is nothing to compare.
@@ -81,12 +81,14 @@ static void warn(Error Failure) {
 
 tv::Observer::~Observer() { warn(Rows.finish()); }
 
-tv::Observer::Seen tv::Observer::see(const Function &F, uint64_t Hash) const {
+tv::Observer::Seen tv::Observer::see(const Function &F,
+                                     const Hashes &Hash) const {
   Seen Found;
   Found.Hash = Hash;
   std::optional<Alone> Copy = cloneAlone(F);
   Found.Text = Copy ? textOf(*Copy->Module) : printed(F);
   Found.Now.Text = Found.Text;
+  Found.Now.Name = nameOf(Copy ? *Copy->Function : F);
   if (!Copy)
     return Found;
   if (Opts.Lower)
@@ -150,9 +152,9 @@ void tv::Observer::before(StringRef Pass, Any IR) {
       continue;
     Frame.Module = F->getParent();
     Frame.Functions.push_back(keyOf(*F));
-    uint64_t Hash = printedHash(*F);
+    Hashes Hash = hashesOf(*F);
     auto Found = Known.find(Frame.Functions.back());
-    if (Found == Known.end() || Found->second.Hash != Hash)
+    if (Found == Known.end() || !(Found->second.Hash == Hash))
       Known[Frame.Functions.back()] = see(*F, Hash);
   }
   Stack.push_back(std::move(Frame));
@@ -173,8 +175,8 @@ void tv::Observer::after(StringRef Pass) {
 }
 
 /// A pass as it is shown: its name in a pipeline, or its class.
-static std::string nameOf(StringRef Pass,
-                          PassInstrumentationCallbacks &Callbacks) {
+static std::string shownPass(StringRef Pass,
+                             PassInstrumentationCallbacks &Callbacks) {
   StringRef Short = Callbacks.getPassNameForClassName(Pass);
   if (!Short.empty())
     return Short.str();
@@ -186,14 +188,15 @@ static std::string nameOf(StringRef Pass,
 
 void tv::Observer::compare(const Running &Pass, const Function &F) {
   Seen &Last = Known[keyOf(F)];
-  uint64_t Hash = printedHash(F);
+  Hashes Hash = hashesOf(F);
   if (Hash == Last.Hash)
     return;
   Seen Next = see(F, Hash);
   // The rules may leave out all that changed: the texts before them say whether
-  // something did.
-  if (Next.Text != Last.Text) {
-    report({F.getParent()->getModuleIdentifier(), nameOf(Pass.Pass, Callbacks),
+  // something did, and what they name.
+  if (Next.Text != Last.Text || Next.Hash.Reached != Last.Hash.Reached) {
+    report({F.getParent()->getModuleIdentifier(),
+            shownPass(Pass.Pass, Callbacks),
             F.hasName() ? F.getName().str() : "unnamed"},
            Pass.IsWide && F.hasLocalLinkage(), Last, Next);
   }
@@ -209,13 +212,17 @@ void tv::Observer::report(const Place &At, bool SeesCallers, Seen Source,
   How.Rules.assign(Rules.begin(), Rules.end());
   How.Alarms = falseAlarms(Source.How, Target.How);
   How.Hides = hiddenFaults(Source.How, Target.How);
+  // A row with a mark names a rule.
+  if (Row.Kind == "correct" && How.Rules.empty() && !How.Hides.empty())
+    How.Rules.push_back("compared");
   // A pass that knows all callers may use what they pass.
   if (SeesCallers)
     How.Alarms.push_back("callers");
   warn(Rows.add(At, Row, How));
-  if (!Opts.KeepFolder.empty() && Row.Kind != "correct")
+  StringRef Kind = countedKind(Row, How);
+  if (!Opts.KeepFolder.empty() && Kind != "correct")
     keep(At, Row, Source, Target);
-  if (!Opts.ExitOnError || Row.Kind != "incorrect")
+  if (!Opts.ExitOnError || Kind != "incorrect")
     return;
   warn(Rows.finish());
   Judge.reset();

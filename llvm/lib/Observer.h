@@ -4,6 +4,7 @@
 #define TV_LLVM_OBSERVER_H
 
 #include "Checker.h"
+#include "Contents.h"
 #include "Lowering.h"
 #include "Options.h"
 #include "Report.h"
@@ -25,7 +26,7 @@ public:
 private:
   /// A function when it was last seen.
   struct Seen {
-    uint64_t Hash = 0;
+    Hashes Hash;
     /// The module with this function alone, before any rule.
     std::string Text;
     Side Now;
@@ -46,7 +47,7 @@ private:
     std::vector<std::string> Functions;
   };
 
-  Seen see(const llvm::Function &F, uint64_t Hash) const;
+  Seen see(const llvm::Function &F, const Hashes &Hash) const;
   void writeOut(Seen &Found, llvm::Function *F,
                 const std::optional<Global> &Variable) const;
   void join(Seen &Found, const std::optional<Global> &Variable) const;

@@ -6,7 +6,6 @@
 #include "llvm/IR/Instructions.h"
 #include "llvm/IR/IntrinsicInst.h"
 #include "llvm/Support/raw_ostream.h"
-#include "llvm/Support/xxhash.h"
 #include "llvm/Transforms/Utils/Cloning.h"
 #include "llvm/Transforms/Utils/ValueMapper.h"
 
@@ -118,6 +117,13 @@ std::optional<tv::Alone> tv::cloneAlone(const Function &F) {
   return Alone{std::move(New), Copy};
 }
 
+std::string tv::nameOf(const Function &F) {
+  std::string Name;
+  raw_string_ostream Stream(Name);
+  F.printAsOperand(Stream, /*PrintType=*/false);
+  return Name;
+}
+
 std::string tv::textOf(const Module &M) {
   std::string Text;
   raw_string_ostream Stream(Text);
@@ -132,11 +138,4 @@ std::string tv::printed(const Function &F) {
          << "\"\n";
   F.print(Stream);
   return Text;
-}
-
-uint64_t tv::printedHash(const Function &F) {
-  std::string Text;
-  raw_string_ostream Stream(Text);
-  F.print(Stream);
-  return xxh3_64bits(Text);
 }

@@ -22,16 +22,14 @@ struct Alone {
 /// no copy where the function names a block of another one.
 std::optional<Alone> cloneAlone(const llvm::Function &F);
 
+/// A function's name as LLVM prints it, with `@`.
+std::string nameOf(const llvm::Function &F);
+
 /// The text of a module.
 std::string textOf(const llvm::Module &M);
 
 /// A function as it is printed, with the data layout.
 std::string printed(const llvm::Function &F);
-
-/// A hash of a function as it is printed. LLVM's StructuralHash leaves flags,
-/// alignments and metadata out, so a pass that changes only these would be
-/// missed.
-uint64_t printedHash(const llvm::Function &F);
 
 } // namespace tv
 

@@ -109,10 +109,13 @@ Expected<tv::Done> tv::runProcess(ArrayRef<std::string> Command,
   if (!IsWhole)
     kill(-*Child, SIGKILL);
   int State = 0;
-  while (waitpid(*Child, &State, 0) < 0 && errno == EINTR)
+  pid_t Ended;
+  while ((Ended = waitpid(*Child, &State, 0)) < 0 && errno == EINTR)
     ;
   if (!IsWhole)
     return Answer;
+  if (Ended != *Child)
+    return errorOf("waitpid", errno);
   Answer.Status = WIFEXITED(State) ? WEXITSTATUS(State) : 128 + WTERMSIG(State);
   return Answer;
 }

@@ -11,7 +11,8 @@ using namespace llvm;
 // tv's kinds in the order of its last line, then ours.
 static constexpr StringLiteral TvKinds[] = {"correct", "incorrect", "unknown",
                                             "refused", "signature"};
-static constexpr StringLiteral OwnKinds[] = {"vacuous", "failed"};
+static constexpr StringLiteral OwnKinds[] = {"vacuous", "failed", "marked",
+                                             "alarm"};
 
 /// The promise that makes a row of this kind doubtful, or none.
 static ArrayRef<std::string> doubts(StringRef Kind, const tv::Written &How) {
@@ -24,6 +25,12 @@ static ArrayRef<std::string> doubts(StringRef Kind, const tv::Written &How) {
 
 static StringRef markOf(StringRef Kind) {
   return Kind == "correct" ? "fault may hide" : "false alarm possible";
+}
+
+StringRef tv::countedKind(const Answer &Row, const Written &How) {
+  if (doubts(Row.Kind, How).empty())
+    return Row.Kind;
+  return Row.Kind == "correct" ? "marked" : "alarm";
 }
 
 static std::string boundsOf(const tv::Needs &Bounds) {
@@ -64,7 +71,7 @@ static json::Object objectOf(const tv::Place &At, const tv::Answer &Row,
   json::Object Object{{"file", json::fixUTF8(At.Module)},
                       {"pass", At.Pass},
                       {"function", json::fixUTF8(At.Function)},
-                      {"kind", Row.Kind},
+                      {"kind", countedKind(Row, How)},
                       {"detail", json::fixUTF8(Row.Detail)},
                       {"what", json::fixUTF8(Row.What)},
                       {"bounds", std::move(Bounds)},
@@ -95,14 +102,15 @@ Error tv::Report::append(StringRef Line) const {
 }
 
 Error tv::Report::add(const Place &At, const Answer &Row, const Written &How) {
+  StringRef Counted = countedKind(Row, How);
   for (ArrayRef<StringLiteral> Kinds :
        {ArrayRef<StringLiteral>(TvKinds), ArrayRef<StringLiteral>(OwnKinds)})
     for (StringLiteral Kind : Kinds)
-      if (Kind == Row.Kind)
+      if (Kind == Counted)
         ++Counts[Kind];
   Module = At.Module;
   ++Rows;
-  if (Row.Kind != "correct" || !Opts.Quiet)
+  if (Counted != "correct" || !Opts.Quiet)
     print(At, Row, How);
   std::string Line;
   raw_string_ostream(Line) << json::Value(objectOf(At, Row, How));

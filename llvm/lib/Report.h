@@ -28,6 +28,10 @@ struct Written {
   std::vector<std::string> Hides;
 };
 
+/// The kind by which a row is counted: `marked` is a `correct` that may hide a
+/// fault, `alarm` an `incorrect` that may be a false alarm.
+llvm::StringRef countedKind(const Answer &Row, const Written &How);
+
 /// The report of one compilation: lines on standard error, and JSON lines in a
 /// file.
 class Report {

@@ -34,6 +34,10 @@ void requireDefined(Builder &B, llvm::Value *V);
 /// Whether a function may store through a pointer that is based on a parameter.
 bool mayWrite(const llvm::Argument &A);
 
+/// Has tv refuse a function that it would read as another one than it is: by a
+/// call that names the reason.
+void refuse(llvm::Function &F, llvm::StringRef Why, Lowered &How);
+
 /// Each rewrites a function by the rules of one kind.
 void lowerHeader(llvm::Function &F, Lowered &How);
 void lowerPromises(llvm::Function &F, Lowered &How);

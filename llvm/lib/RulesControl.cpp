@@ -22,6 +22,9 @@ void tv::lowerHeader(Function &F, Lowered &How) {
   F.setDLLStorageClass(GlobalValue::DefaultStorageClass);
   if (F.getCallingConv() != CallingConv::C &&
       F.getCallingConv() != CallingConv::Fast) {
+    How.Compared.insert(F.getCallingConv() == CallingConv::Cold
+                            ? "header:coldcc"
+                            : "header:cc" + std::to_string(F.getCallingConv()));
     F.setCallingConv(CallingConv::C);
     Changes = true;
   }
@@ -41,6 +44,19 @@ void tv::lowerHeader(Function &F, Lowered &How) {
     }
   if (Changes)
     How.Rules.insert("header");
+}
+
+//===----------------------------------------------------------------------===//
+// What tv would read as something else
+//===----------------------------------------------------------------------===//
+
+void tv::refuse(Function &F, StringRef Why, Lowered &How) {
+  Module &M = *F.getParent();
+  FunctionCallee Callee = M.getOrInsertFunction(
+      ("tv.refuses." + Why).str(), Type::getVoidTy(F.getContext()));
+  CallInst::Create(Callee, "",
+                   &*F.getEntryBlock().getFirstNonPHIOrDbgOrAlloca());
+  How.Rules.insert("refuse");
 }
 
 //===----------------------------------------------------------------------===//

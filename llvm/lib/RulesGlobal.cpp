@@ -8,6 +8,7 @@
 //
 //===----------------------------------------------------------------------===//
 
+#include "Contents.h"
 #include "Rules.h"
 #include "llvm/ADT/SmallPtrSet.h"
 #include "llvm/ADT/StringExtras.h"
@@ -36,6 +37,7 @@ static tv::Global known(const GlobalVariable &G) {
   const DataLayout &DL = G.getParent()->getDataLayout();
   tv::Global Found;
   Found.Name = G.getName().str();
+  Found.Value = tv::valueHash(G);
   Found.Alignment = std::min(G.getPointerAlignment(DL).value(), MaxAlignment);
   Found.IsConstant = G.isConstant();
   if (!G.getValueType()->isSized())
@@ -79,6 +81,8 @@ std::optional<tv::Global> tv::globalOf(const Globals &Source,
   Globals Both = Source;
   for (const auto &[Name, Other] : Target) {
     auto [Same, IsNew] = Both.insert({Name, Other});
+    if (Same->second.Value != Other.Value)
+      return std::nullopt;
     Same->second.Bytes = std::min(Same->second.Bytes, Other.Bytes);
     Same->second.Alignment = std::min(Same->second.Alignment, Other.Alignment);
     Same->second.IsConstant |= Other.IsConstant;

@@ -6,12 +6,16 @@
 //
 //===----------------------------------------------------------------------===//
 
+#include "Accesses.h"
+#include "Contents.h"
 #include "Rules.h"
+#include "llvm/ADT/StringExtras.h"
 #include "llvm/IR/ConstantRange.h"
 #include "llvm/IR/InstIterator.h"
 #include "llvm/IR/Instructions.h"
 #include "llvm/IR/Module.h"
 #include "llvm/IR/Operator.h"
+#include "llvm/Support/xxhash.h"
 
 using namespace llvm;
 using tv::Builder;
@@ -47,6 +51,14 @@ struct PointerUse {
   bool Escapes = false;
 };
 
+/// Adds what is loaded from a variable.
+void insertLoads(const Value &Variable,
+                 SmallSetVector<const Value *, 16> &Found) {
+  for (const User *Each : Variable.users())
+    if (isa<LoadInst>(Each))
+      Found.insert(Each);
+}
+
 PointerUse usesOf(const Argument &A) {
   PointerUse Found;
   SmallSetVector<const Value *, 16> Based;
@@ -63,6 +75,8 @@ PointerUse usesOf(const Argument &A) {
         Found.Writes = true;
       else if (isa<ReturnInst>(User))
         Found.IsReturned = true;
+      else if (isa<StoreInst>(User) && tv::storedOnce(User->getOperand(1)))
+        insertLoads(*User->getOperand(1), Based);
       else if (isa<GetElementPtrInst, SelectInst, PHINode, FreezeInst>(User))
         Based.insert(User);
       else
@@ -70,59 +84,6 @@ PointerUse usesOf(const Argument &A) {
     }
   return Found;
 }
-
-/// The values that a pointer may be based on: what is behind getelementptr,
-/// select, phi and freeze.
-void basesOf(const Value *Pointer, SmallPtrSetImpl<const Value *> &Seen,
-             SmallPtrSetImpl<const Value *> &Bases) {
-  if (!Seen.insert(Pointer).second)
-    return;
-  const auto *User = dyn_cast<Instruction>(Pointer);
-  if (const auto *GEP = dyn_cast<GEPOperator>(Pointer))
-    return basesOf(GEP->getPointerOperand(), Seen, Bases);
-  if (User && isa<SelectInst, PHINode, FreezeInst>(User)) {
-    for (const Value *Operand : User->operands())
-      if (Operand->getType()->isPointerTy())
-        basesOf(Operand, Seen, Bases);
-    return;
-  }
-  Bases.insert(Pointer);
-}
-
-/// The accesses of a function as far as noalias asks.
-class Accesses {
-public:
-  explicit Accesses(const Function &F) {
-    for (const Instruction &I : instructions(F)) {
-      const Value *Pointer = getLoadStorePointerOperand(&I);
-      if (!Pointer) {
-        OnlyPlain &= !I.mayReadOrWriteMemory();
-        continue;
-      }
-      SmallPtrSet<const Value *, 8> Seen, Bases;
-      basesOf(Pointer, Seen, Bases);
-      for (const Value *Base : Bases) {
-        if (isa<AllocaInst>(Base))
-          continue;
-        Foreign.insert(Base);
-        Writes |= isa<StoreInst>(I);
-      }
-    }
-  }
-
-  /// Whether no memory from outside is written, or all of it that is accessed
-  /// is so through the parameter.
-  bool canNotAlias(const Argument &A) const {
-    if (!OnlyPlain)
-      return false;
-    return !Writes || (Foreign.size() == 1 && Foreign.contains(&A));
-  }
-
-private:
-  SmallSetVector<const Value *, 8> Foreign;
-  bool Writes = false;
-  bool OnlyPlain = true;
-};
 
 bool returnsOnly(const Function &F, const Value *V) {
   return all_of(F, [&](const BasicBlock &Block) {
@@ -140,7 +101,7 @@ bool tv::mayWrite(const Argument &A) {
 
 /// Whether a function cannot break what an attribute of its parameter says.
 static bool cannotBreak(const Argument &A, Attribute::AttrKind Kind,
-                        const PointerUse &Uses, const Accesses &All) {
+                        const PointerUse &Uses, const tv::Accesses &All) {
   switch (Kind) {
   case Attribute::NoCapture:
     return !Uses.Escapes && !Uses.IsReturned;
@@ -201,6 +162,35 @@ static std::string nameOf(Attribute A) {
   return Name + "(" + std::to_string(A.getValueAsInt()) + ")";
 }
 
+/// A text as a word.
+static std::string hashed(const std::string &Text) {
+  return utohexstr(xxh3_64bits(Text), /*LowerCase=*/true);
+}
+
+static void dropAttribute(Argument &A, Attribute::AttrKind Kind,
+                          tv::Lowered &How) {
+  if (!A.hasAttribute(Kind))
+    return;
+  A.removeAttr(Kind);
+  How.Rules.insert(Attribute::getNameFromAttrKind(Kind).str());
+}
+
+/// Whether so many bytes can be asked for: a given block has no more than 32,
+/// and is aligned to 16.
+static constexpr uint64_t MaxBytes = 32, MaxAlignment = 16;
+static bool isAsked(uint64_t Bytes) { return Bytes && Bytes <= MaxBytes; }
+
+/// Makes a run undefined where a pointer doesn't have these bytes: all lie in
+/// one block where the first and the last do.
+static void requireBytes(Builder &B, Value *Pointer, uint64_t Bytes,
+                         Align Alignment = Align(1)) {
+  B.CreateAlignedLoad(B.getInt8Ty(), Pointer, Alignment);
+  if (Bytes == 1)
+    return;
+  Value *Last = B.CreateGEP(B.getInt8Ty(), Pointer, B.getInt64(Bytes - 1));
+  B.CreateAlignedLoad(B.getInt8Ty(), Last, Align(1));
+}
+
 static void lowerRange(Argument &A, tv::Lowered &How) {
   Attribute Range = A.getAttribute(Attribute::Range);
   if (!Range.isValid() || !tv::isReadInteger(A.getType()))
@@ -218,25 +208,66 @@ static void lowerRange(Argument &A, tv::Lowered &How) {
   How.Rules.insert("range");
 }
 
-static void lowerParameters(Function &F, tv::Lowered &How) {
-  Accesses All(F);
+/// Notes a promise about what a function does with a parameter. What breaks it
+/// is an access, or outlives the call and is compared with all that does.
+static void notePromise(const std::string &Name, Attribute::AttrKind Kind,
+                        const tv::Accesses &All, tv::Places &Found,
+                        tv::Lowered &How) {
+  switch (Kind) {
+  case Attribute::NoAlias:
+  case Attribute::ReadOnly:
+  case Attribute::WriteOnly:
+  case Attribute::ReadNone:
+    for (const tv::Access &Each : All.all())
+      if (Each.IsForeign)
+        Found.add(Name + "~" + hashed(Each.Kind + " " + Each.Bases),
+                  *Each.Where->getParent());
+    [[fallthrough]];
+  case Attribute::NoCapture:
+  case Attribute::Returned:
+    How.Dropped.insert(Name + "~");
+    return;
+  default:
+    How.Dropped.insert(Name);
+  }
+}
+
+/// Writes `dereferenceable` of a parameter out, with its alignment.
+static void lowerDereferenceable(Argument &A, tv::Lowered &How) {
+  uint64_t Bytes = A.getDereferenceableBytes();
+  if (!isAsked(Bytes))
+    return;
+  Builder B(&*A.getParent()->getEntryBlock().getFirstNonPHIOrDbgOrAlloca());
+  Align Alignment = A.getParamAlign().valueOrOne();
+  if (Alignment.value() > MaxAlignment)
+    Alignment = Align(1);
+  else
+    dropAttribute(A, Attribute::Alignment, How);
+  requireBytes(B, &A, Bytes, Alignment);
+  dropAttribute(A, Attribute::Dereferenceable, How);
+}
+
+static void lowerParameters(Function &F, const tv::Accesses &All,
+                            tv::Lowered &How) {
+  tv::Places Found(F);
   for (Argument &A : F.args()) {
     std::string Number = "arg" + std::to_string(A.getArgNo());
     if (A.use_empty())
       How.Unused.insert(Number);
     PointerUse Uses = usesOf(A);
+    lowerDereferenceable(A, How);
     AttributeSet Attributes = F.getAttributes().getParamAttrs(A.getArgNo());
     for (Attribute Each : Attributes) {
       if (Each.isStringAttribute() || !isDropped(Each.getKindAsEnum()))
         continue;
       Attribute::AttrKind Kind = Each.getKindAsEnum();
-      A.removeAttr(Kind);
-      How.Rules.insert(Attribute::getNameFromAttrKind(Kind).str());
+      dropAttribute(A, Kind, How);
       if (!cannotBreak(A, Kind, Uses, All))
-        How.Dropped.insert(Number + ":" + nameOf(Each));
+        notePromise(Number + ":" + nameOf(Each), Kind, All, Found, How);
     }
     lowerRange(A, How);
   }
+  Found.addTo(How.Dropped);
 }
 
 //===----------------------------------------------------------------------===//
@@ -273,7 +304,47 @@ static void returnInRange(Function &F, const ConstantRange &Range) {
   }
 }
 
+/// Whether a returned pointer may be one to a variable of the function, which
+/// is gone then.
+static bool mayReturnLocal(const Function &F) {
+  bool HasVariables = any_of(
+      instructions(F), [](const Instruction &I) { return isa<AllocaInst>(I); });
+  return HasVariables && any_of(F, [](const BasicBlock &Block) {
+           const auto *Return = dyn_cast<ReturnInst>(Block.getTerminator());
+           return Return &&
+                  any_of(tv::basesOf(Return->getReturnValue()),
+                         [](const Value *V) { return !isa<Argument>(V); });
+         });
+}
+
+/// Writes `dereferenceable` of the return out, with the alignment: a poison
+/// pointer is undefined too. False where it isn't there or can't be written.
+static bool lowerReturnedBytes(Function &F) {
+  AttributeSet Attributes = F.getAttributes().getRetAttrs();
+  uint64_t Bytes = Attributes.getDereferenceableBytes();
+  Align Alignment = Attributes.getAlignment().valueOrOne();
+  if (!isAsked(Bytes) || Alignment.value() > MaxAlignment || mayReturnLocal(F))
+    return false;
+  for (BasicBlock &Block : F)
+    if (auto *Return = dyn_cast<ReturnInst>(Block.getTerminator())) {
+      Builder B(Return);
+      requireBytes(B, Return->getReturnValue(), Bytes, Alignment);
+    }
+  return true;
+}
+
+/// Notes a promise about what is returned: where both functions have it and
+/// return the same, the source breaks it where the target does. Poison that is
+/// returned is undefined where `noundef` is said too.
+static void noteReturned(const Function &F, const std::string &Name,
+                         tv::Lowered &How) {
+  How.Dropped.insert(Name + "~");
+  if (F.hasRetAttribute(Attribute::NoUndef))
+    How.Dropped.insert(Name + "~defined");
+}
+
 static void lowerReturn(Function &F, tv::Lowered &How) {
+  bool IsWritten = lowerReturnedBytes(F);
   for (Attribute Each : F.getAttributes().getRetAttrs()) {
     if (Each.isStringAttribute())
       continue;
@@ -287,14 +358,16 @@ static void lowerReturn(Function &F, tv::Lowered &How) {
       MayBreak = false;
       break;
     case Attribute::NonNull:
-      MayBreak = !returnsNotNull(F);
+      MayBreak = !IsWritten && !returnsNotNull(F);
       break;
     case Attribute::InReg:
       MayBreak = false;
       break;
-    case Attribute::NoAlias:
     case Attribute::Alignment:
     case Attribute::Dereferenceable:
+      MayBreak = !IsWritten;
+      break;
+    case Attribute::NoAlias:
     case Attribute::DereferenceableOrNull:
       break;
     default:
@@ -303,7 +376,7 @@ static void lowerReturn(Function &F, tv::Lowered &How) {
     F.removeRetAttr(Kind);
     How.Rules.insert(Attribute::getNameFromAttrKind(Kind).str());
     if (MayBreak)
-      How.Dropped.insert("ret:" + nameOf(Each));
+      noteReturned(F, "ret:" + nameOf(Each), How);
   }
 }
 
@@ -368,7 +441,54 @@ static void lowerValueMetadata(Instruction &I, tv::Lowered &How) {
   I.setMetadata(LLVMContext::MD_noundef, nullptr);
 }
 
+/// The number that is the one operand of a node.
+static uint64_t numberIn(const MDNode *Node) {
+  auto *Number = Node && Node->getNumOperands() == 1
+                     ? mdconst::dyn_extract<ConstantInt>(Node->getOperand(0))
+                     : nullptr;
+  return Number ? Number->getValue().getLimitedValue() : 0;
+}
+
+/// Writes `!dereferenceable` of a pointer that is loaded out, with what it says
+/// more: a pointer that is null, poison or not aligned is undefined then too.
+static void lowerLoadedBytes(Instruction &I, tv::Lowered &How) {
+  const MDNode *Node = I.getMetadata(LLVMContext::MD_dereferenceable);
+  const MDNode *Aligned = I.getMetadata(LLVMContext::MD_align);
+  uint64_t Bytes = numberIn(Node);
+  uint64_t Alignment = Aligned ? numberIn(Aligned) : 1;
+  if (!isa<LoadInst>(I) || !I.getType()->isPointerTy() || !isAsked(Bytes) ||
+      !isPowerOf2_64(Alignment) || Alignment > MaxAlignment)
+    return;
+  Builder B(I.getParent(), std::next(I.getIterator()));
+  requireBytes(B, &I, Bytes, Align(Alignment));
+  How.Rules.insert("!dereferenceable");
+  for (unsigned Kind : {LLVMContext::MD_dereferenceable, LLVMContext::MD_align,
+                        LLVMContext::MD_nonnull, LLVMContext::MD_noundef})
+    I.setMetadata(Kind, nullptr);
+}
+
+/// What is alike in two accesses with the same promise; empty where nothing is
+/// said of this kind. Of a promise about a value also where it is from.
+static std::string sharedBy(const tv::Access &A, unsigned Kind) {
+  std::string Place =
+      A.Bases + "+" + (A.Offset ? itostr(*A.Offset) : std::string("?"));
+  switch (Kind) {
+  case LLVMContext::MD_tbaa:
+    return A.Kind;
+  case LLVMContext::MD_nonnull:
+  case LLVMContext::MD_align:
+  case LLVMContext::MD_dereferenceable:
+  case LLVMContext::MD_dereferenceable_or_null:
+  case LLVMContext::MD_noundef:
+  case LLVMContext::MD_invariant_load:
+    return A.Kind + " " + Place;
+  default:
+    return "";
+  }
+}
+
 static void lowerMetadata(Instruction &I, ArrayRef<StringRef> Names,
+                          const tv::Accesses &All, tv::Places &Found,
                           tv::Lowered &How) {
   SmallVector<std::pair<unsigned, MDNode *>, 4> Attachments;
   I.getAllMetadata(Attachments);
@@ -379,20 +499,33 @@ static void lowerMetadata(Instruction &I, ArrayRef<StringRef> Names,
     // What a `switch` or a `store` is told by !noundef and its like is nothing.
     std::string Name = "!" + Names[Kind].str();
     How.Rules.insert(Name);
-    How.Dropped.insert(Name);
+    const tv::Access *Access = All.of(I);
+    std::string Shared = Access ? sharedBy(*Access, Kind) : "";
+    uint64_t Contents = tv::nodeHash(*Node);
+    if (Shared.empty() || !Contents)
+      How.Dropped.insert(Name);
+    else
+      Found.add(Name + "~" + hashed(Shared + " " + utohexstr(Contents)),
+                *I.getParent());
   }
 }
 
 void tv::lowerPromises(Function &F, Lowered &How) {
   SmallVector<StringRef, 64> Names;
   F.getContext().getMDKindNames(Names);
-  lowerParameters(F, How);
+  Accesses All(F);
+  Places Promised(F), Stored(F);
+  addStores(All, Stored);
+  lowerParameters(F, All, How);
   for (Instruction &I : make_early_inc_range(instructions(F))) {
     // tv refuses other calls as they are.
     if (isa<CallBase>(I) && !isa<IntrinsicInst>(I))
       continue;
     lowerValueMetadata(I, How);
-    lowerMetadata(I, Names, How);
+    lowerLoadedBytes(I, How);
+    lowerMetadata(I, Names, All, Promised, How);
   }
+  Promised.addTo(How.Dropped);
+  Stored.addTo(How.Compared);
   lowerReturn(F, How);
 }

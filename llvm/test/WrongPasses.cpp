@@ -59,6 +59,36 @@ struct WholePass : PassInfoMixin<WholePass> {
   }
 };
 
+/// Narrows each range of a load in place: the function's own text stays.
+struct NarrowPass : PassInfoMixin<NarrowPass> {
+  PreservedAnalyses run(Function &F, FunctionAnalysisManager &) {
+    for (Instruction &I : instructions(F))
+      if (MDNode *Range = I.getMetadata(LLVMContext::MD_range)) {
+        auto *High = mdconst::extract<ConstantInt>(Range->getOperand(1));
+        Range->replaceOperandWith(
+            1, ConstantAsMetadata::get(ConstantInt::get(
+                   High->getType(), High->getZExtValue() - 1)));
+      }
+    return PreservedAnalyses::none();
+  }
+};
+
+/// A module pass that adds 1 to what each variable holds at first, and says of
+/// each function without a body that it only reads.
+struct ReachedPass : PassInfoMixin<ReachedPass> {
+  PreservedAnalyses run(Module &M, ModuleAnalysisManager &) {
+    for (GlobalVariable &G : M.globals())
+      if (G.hasInitializer())
+        if (auto *Held = dyn_cast<ConstantInt>(G.getInitializer()))
+          G.setInitializer(
+              ConstantInt::get(Held->getType(), Held->getZExtValue() + 1));
+    for (Function &F : M)
+      if (F.isDeclaration())
+        F.setOnlyReadsMemory();
+    return PreservedAnalyses::none();
+  }
+};
+
 } // namespace
 
 static bool addToFunction(StringRef Name, FunctionPassManager &Passes,
@@ -69,6 +99,8 @@ static bool addToFunction(StringRef Name, FunctionPassManager &Passes,
     Passes.addPass(FlagPass());
   else if (Name == "wrong-alias")
     Passes.addPass(AliasPass());
+  else if (Name == "wrong-narrow")
+    Passes.addPass(NarrowPass());
   else
     return false;
   return true;
@@ -76,9 +108,12 @@ static bool addToFunction(StringRef Name, FunctionPassManager &Passes,
 
 static bool addToModule(StringRef Name, ModulePassManager &Passes,
                         ArrayRef<PassBuilder::PipelineElement>) {
-  if (Name != "wrong-module")
+  if (Name == "wrong-module")
+    Passes.addPass(WholePass());
+  else if (Name == "wrong-reached")
+    Passes.addPass(ReachedPass());
+  else
     return false;
-  Passes.addPass(WholePass());
   return true;
 }
 

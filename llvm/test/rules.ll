@@ -257,7 +257,7 @@ define i8 @tgt.switch() {
   ret i8 1
 }
 
-; correct [blocks 1] by gep-bytes
+; correct [blocks 1 bytes 12] by gep-bytes
 define i32 @src.field(ptr %p) {
   %f = getelementptr inbounds %mixed, ptr %p, i64 0, i32 1
   %r = load i32, ptr %f
@@ -269,7 +269,7 @@ define i32 @tgt.field(ptr %p) {
   ret i32 %r
 }
 
-; correct [blocks 1 bytes 10] by gep-bytes
+; correct [blocks 1 bytes 12] by gep-bytes
 define i16 @src.field_of_array(ptr %p, i32 %i) {
   %f = getelementptr inbounds %mixed, ptr %p, i64 0, i32 2, i32 %i
   %r = load i16, ptr %f
@@ -343,7 +343,7 @@ define i32 @tgt.alloca(i32 %x) {
   ret i32 %x
 }
 
-; correct [bytes 16] by aggregate-parts
+; correct [bytes 24] by aggregate-parts
 define void @src.copy(ptr %p, ptr %q) {
   %v = load %pair, ptr %p
   store %pair %v, ptr %q
@@ -456,7 +456,7 @@ define void @tgt.broken_readonly(ptr readonly %p) {
   ret void
 }
 
-; correct [blocks 1] by nocapture; fault may hide: arg0:nocapture
+; correct [blocks 1] by nocapture
 define ptr @src.captured(ptr nocapture %p) {
   ret ptr %p
 }
@@ -513,11 +513,11 @@ define i8 @tgt.made_align(ptr align 4 %p) {
   ret i8 %v
 }
 
-; correct [blocks 1] by dereferenceable; fault may hide: arg0:dereferenceable(4)
+; correct [blocks 1] by dereferenceable; fault may hide: arg0:dereferenceable(40)
 define i8 @src.made_dereferenceable(ptr %p) {
   ret i8 0
 }
-define i8 @tgt.made_dereferenceable(ptr dereferenceable(4) %p) {
+define i8 @tgt.made_dereferenceable(ptr dereferenceable(40) %p) {
   ret i8 0
 }
 
@@ -531,7 +531,7 @@ define i8 @tgt.broken_writeonly(ptr writeonly %p) {
   ret i8 %v
 }
 
-; correct [blocks 1] by nocapture, readnone; fault may hide: arg0:nocapture, arg0:readnone
+; correct [blocks 1 bytes 16] by nocapture, readnone; fault may hide: arg0:nocapture, arg0:readnone
 define void @src.stored(ptr %p, ptr %q, i1 %c) {
   %s = select i1 %c, ptr %p, ptr %q
   store ptr %s, ptr %q
@@ -564,7 +564,7 @@ define align 8 ptr @tgt.return_align(ptr %p) {
   ret ptr %p
 }
 
-; correct [blocks 1] by !nonnull; fault may hide: !nonnull
+; correct [blocks 1 bytes 16] by !nonnull; fault may hide: !nonnull
 define ptr @src.load_nonnull(ptr %p) {
   %v = load ptr, ptr %p
   ret ptr %v
@@ -706,7 +706,7 @@ define void @tgt.prefetch_noundef(ptr %p) {
   ret void
 }
 
-; correct [blocks 1] by memset
+; correct [blocks 1 bytes 11] by memset
 define void @src.memset(ptr %p, i8 %x) {
   call void @llvm.memset.p0.i64(ptr noundef nonnull align 4 dereferenceable(7) %p, i8 %x, i64 7, i1 false)
   ret void
@@ -738,7 +738,7 @@ define void @tgt.memset_less(ptr %p) {
   ret void
 }
 
-; correct [blocks 1] by memset
+; correct [blocks 1 bytes 16] by memset
 define void @src.memset_align(ptr %p) {
   call void @llvm.memset.p0.i64(ptr align 8 %p, i8 -1, i64 8, i1 false)
   ret void
@@ -878,7 +878,7 @@ define i32 @tgt.global_memory(i1 noundef %c) {
   ret i32 %r
 }
 
-; correct [blocks 1] by global
+; correct [blocks 1 bytes 17] by global
 define i8 @src.global_many(i64 %x, i1 noundef %c) {
   %p = getelementptr inbounds [100 x i8], ptr @many, i64 0, i64 %x
   %v = load i8, ptr %p
@@ -897,7 +897,7 @@ define i8 @tgt.global_many(i64 %x, i1 noundef %c) {
   ret i8 %r
 }
 
-; incorrect [blocks 1] by global; false alarm possible: @number
+; incorrect [blocks 1 bytes 10] by global; false alarm possible: @number
 define i8 @src.global_past(i1 noundef %c) {
   br i1 %c, label %read, label %not
 read:
@@ -914,7 +914,7 @@ define i8 @tgt.global_past(i1 noundef %c) {
   ret i8 %r
 }
 
-; correct [blocks 1] by gep-bytes, global
+; correct [blocks 1 bytes 12] by gep-bytes, global
 define i32 @src.global_field(i1 %c) {
 entry:
   br i1 %c, label %one, label %end
@@ -996,11 +996,245 @@ define i32 @tgt.global_of_thread() {
   ret i32 %v
 }
 
-; correct by header
+; correct by header; fault may hide: header:coldcc
 define coldcc i8 @src.header(i8 %x) section ".text.cold" align 16 {
   ret i8 %x
 }
 define i8 @tgt.header(i8 %x) {
+  ret i8 %x
+}
+
+; correct [blocks 1] by dereferenceable
+define i8 @src.dereferenceable(ptr dereferenceable(4) %p) {
+  ret i8 0
+}
+define i8 @tgt.dereferenceable(ptr %p) {
+  %a = load i8, ptr %p
+  %q = getelementptr i8, ptr %p, i64 3
+  %b = load i8, ptr %q
+  ret i8 0
+}
+
+; incorrect [blocks 1] by dereferenceable
+define i8 @src.dereferenceable_other(ptr dereferenceable(2) %p, ptr %q) {
+  ret i8 0
+}
+define i8 @tgt.dereferenceable_other(ptr %p, ptr dereferenceable(2) %q) {
+  ret i8 0
+}
+
+; correct [blocks 1 bytes 24] by align, dereferenceable
+define i8 @src.aligned_bytes(ptr align 8 dereferenceable(16) %p) {
+  ret i8 0
+}
+define i8 @tgt.aligned_bytes(ptr %p) {
+  %a = load i8, ptr %p, align 8
+  %q = getelementptr i8, ptr %p, i64 15
+  %b = load i8, ptr %q
+  ret i8 0
+}
+
+; correct [blocks 1] by align, dereferenceable, nonnull
+define nonnull align 2 dereferenceable(3) ptr @src.return_bytes(ptr %p) {
+  ret ptr %p
+}
+define ptr @tgt.return_bytes(ptr %p) {
+  %a = load i8, ptr %p, align 2
+  %q = getelementptr i8, ptr %p, i64 2
+  %b = load i8, ptr %q
+  ret ptr %p
+}
+
+; correct by dereferenceable; fault may hide: ret:dereferenceable(1)
+define ptr @src.return_local() {
+  %a = alloca i8
+  ret ptr %a
+}
+define dereferenceable(1) ptr @tgt.return_local() {
+  %a = alloca i8
+  ret ptr %a
+}
+
+; correct [blocks 1] by nonnull
+define nonnull ptr @src.both_nonnull(ptr %p) {
+  ret ptr %p
+}
+define nonnull ptr @tgt.both_nonnull(ptr %p) {
+  %q = getelementptr i8, ptr %p, i64 0
+  ret ptr %p
+}
+
+; correct [blocks 1] by nonnull; fault may hide: ret:nonnull
+define nonnull ptr @src.nonnull_defined(ptr noundef %p) {
+  ret ptr %p
+}
+define noundef nonnull ptr @tgt.nonnull_defined(ptr noundef %p) {
+  ret ptr %p
+}
+
+; correct [bytes 16] by !dereferenceable
+define ptr @src.load_bytes(ptr %p) {
+  %v = load ptr, ptr %p, !dereferenceable !6, !align !7, !nonnull !1, !noundef !1
+  ret ptr null
+}
+define ptr @tgt.load_bytes(ptr %p) {
+  %v = load ptr, ptr %p
+  %a = load i8, ptr %v, align 4
+  %q = getelementptr i8, ptr %v, i64 4
+  %b = load i8, ptr %q
+  ret ptr null
+}
+
+; correct [blocks 1] by !tbaa
+define i32 @src.tbaa_kept(ptr %p) {
+  %v = load i32, ptr %p, !tbaa !2
+  %r = add i32 %v, %v
+  ret i32 %r
+}
+define i32 @tgt.tbaa_kept(ptr %p) {
+  %v = load i32, ptr %p, !tbaa !2
+  %r = shl i32 %v, 1
+  ret i32 %r
+}
+
+; correct [blocks 1] by !tbaa; fault may hide: !tbaa
+define i32 @src.tbaa_other(ptr %p) {
+  %v = load i32, ptr %p, !tbaa !2
+  ret i32 %v
+}
+define i32 @tgt.tbaa_other(ptr %p) {
+  %v = load i32, ptr %p, !tbaa !8
+  ret i32 %v
+}
+
+; correct [blocks 1] by !tbaa, align, dereferenceable; fault may hide: !tbaa
+define i32 @src.tbaa_hoisted(ptr align 4 dereferenceable(4) %p, i1 noundef %c) {
+  br i1 %c, label %then, label %else
+then:
+  %v = load i32, ptr %p, !tbaa !2
+  ret i32 %v
+else:
+  ret i32 0
+}
+define i32 @tgt.tbaa_hoisted(ptr align 4 dereferenceable(4) %p, i1 noundef %c) {
+  %v = load i32, ptr %p, !tbaa !2
+  %r = select i1 %c, i32 %v, i32 0
+  ret i32 %r
+}
+
+; correct by noalias
+define void @src.noalias_kept(ptr noalias %p, ptr %q) {
+  store i8 1, ptr %p
+  store i8 2, ptr %q
+  ret void
+}
+define void @tgt.noalias_kept(ptr noalias %p, ptr %q) {
+  %two = add i8 1, 1
+  store i8 1, ptr %p
+  store i8 %two, ptr %q
+  ret void
+}
+
+; correct by dereferenceable, noalias; fault may hide: arg0:noalias
+define void @src.noalias_more(ptr noalias %p, ptr dereferenceable(1) %q) {
+  store i8 1, ptr %p
+  ret void
+}
+define void @tgt.noalias_more(ptr noalias %p, ptr dereferenceable(1) %q) {
+  %v = load i8, ptr %q
+  store i8 1, ptr %p
+  ret void
+}
+
+; correct [blocks 1] by compared; fault may hide: store
+define void @src.stores_back(ptr %p) {
+  %v = load i8, ptr %p
+  %c = icmp eq i8 %v, 7
+  br i1 %c, label %seven, label %other
+seven:
+  ret void
+other:
+  ret void
+}
+define void @tgt.stores_back(ptr %p) {
+  %v = load i8, ptr %p
+  %c = icmp eq i8 %v, 7
+  br i1 %c, label %seven, label %other
+seven:
+  store i8 7, ptr %p
+  ret void
+other:
+  ret void
+}
+
+; correct [blocks 1] by !noundef; fault may hide: store
+define void @src.stores_sometimes(ptr %p, i1 noundef %c) {
+  %v = load i32, ptr %p, !noundef !1
+  br i1 %c, label %then, label %end
+then:
+  store i32 7, ptr %p
+  br label %end
+end:
+  ret void
+}
+define void @tgt.stores_sometimes(ptr %p, i1 noundef %c) {
+  %v = load i32, ptr %p, !noundef !1
+  %r = select i1 %c, i32 7, i32 %v
+  store i32 %r, ptr %p
+  ret void
+}
+
+; correct [blocks 1]
+define void @src.stores_on_both(ptr %p, i1 noundef %c) {
+  br i1 %c, label %then, label %else
+then:
+  store i32 7, ptr %p
+  ret void
+else:
+  store i32 8, ptr %p
+  ret void
+}
+define void @tgt.stores_on_both(ptr %p, i1 noundef %c) {
+  %r = select i1 %c, i32 7, i32 8
+  store i32 %r, ptr %p
+  ret void
+}
+
+; incorrect [bytes 16]
+define void @src.alignments(ptr %p, ptr %q) {
+  %a = load i64, ptr %p, align 4
+  %b = load i64, ptr %q, align 8
+  ret void
+}
+define void @tgt.alignments(ptr %p, ptr %q) {
+  %a = load i64, ptr %p, align 8
+  %b = load i64, ptr %q, align 4
+  ret void
+}
+
+; refused source Unsupported call @tv.refuses.null_pointer_is_valid by refuse
+define void @src.null_valid(ptr %p) null_pointer_is_valid {
+  store i8 0, ptr %p
+  ret void
+}
+define void @tgt.null_valid(ptr nonnull %p) null_pointer_is_valid {
+  store i8 0, ptr %p
+  ret void
+}
+
+; correct
+define i8 @src.null_valid_unused(i8 %x) null_pointer_is_valid {
+  ret i8 %x
+}
+define i8 @tgt.null_valid_unused(i8 %x) {
+  ret i8 %x
+}
+
+; refused source Unsupported call @tv.refuses.naked by refuse
+define i8 @src.naked(i8 %x) naked {
+  ret i8 %x
+}
+define i8 @tgt.naked(i8 %x) {
   ret i8 %x
 }
 
@@ -1010,3 +1244,7 @@ define i8 @tgt.header(i8 %x) {
 !3 = !{!"int", !4}
 !4 = !{!"omnipotent char", !5}
 !5 = !{!"Simple C/C++ TBAA"}
+!6 = !{i64 5}
+!7 = !{i64 4}
+!8 = !{!9, !9, i64 0}
+!9 = !{!"float", !4}

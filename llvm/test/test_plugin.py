@@ -169,12 +169,12 @@ def rows_of(bench, path):
 
 def same_row_in_both(bench):
     """The pass by -tv and two modules by tv-check --lower have the same rows. What the source has
-    too is marked, but for what is the caller's."""
+    too is not marked."""
     text = STORES.replace("ptr %p", "ptr noalias align 2 %p", 1)
     before = bench.write("before.ll", text)
     seen = bench.opt(text, "wrong-alias")
     after = bench.write("after.ll", seen.stdout)
-    row = "@stores correct by align, noalias; fault may hide: arg0:noalias, arg1:noalias\n"
+    row = "@stores correct by align, noalias; fault may hide: arg1:noalias\n"
     within(row, bench.run(os.path.join(TOOLS, "tv-check"), "--lower", before, after).stdout,
            "tv-check")
     within(row, seen.stderr, "-tv")
@@ -197,6 +197,28 @@ def layouts(bench):
         if memory:
             within("@stores refused source data-layout", done.stdout, "the row of the stores")
             within("AliasPass @stores refused source data-layout", seen.stderr, "the row")
+    offsets = 'target datalayout = "e-p:64:64:64:32"\n'
+    seen = bench.opt(offsets + SUM + STORES, "wrong-sub,wrong-alias")
+    within("tv: SubtractPass @sum incorrect by layout\n", seen.stderr, "a layout with short offsets")
+    within("call @tv.refuses.datalayout", seen.stderr, "the row of the stores then")
+
+
+CONVENTIONS = """define coldcc i8 @cold(i8 %x) {
+  %s = add i8 %x, 0
+  ret i8 %s
+}
+"""
+
+
+def conventions(bench):
+    """A calling convention that both functions have marks no row; one that one has alone does."""
+    done = bench.opt(CONVENTIONS, "instcombine")
+    within("tv: instcombine @cold correct by header\n", done.stderr, "the row")
+    before = bench.write("before.ll", CONVENTIONS)
+    after = bench.write("after.ll", CONVENTIONS.replace("coldcc ", ""))
+    for sides in ((before, after), (after, before)):
+        done = bench.run(os.path.join(TOOLS, "tv-check"), "--lower", "--no-trace", *sides)
+        within("@cold correct by header; fault may hide: header:coldcc\n", done.stdout, "tv-check")
 
 
 def integers(bench):
@@ -257,6 +279,48 @@ def flags_alone_are_seen(bench):
     within("tv: FlagPass @sum incorrect", done.stderr, "the row")
 
 
+def what_is_reached_is_seen(bench):
+    """Metadata that is changed in place, initial values, and attributes of what is called."""
+    text = """@held = global i8 7
+@table = constant [1 x ptr] [ptr @held]
+declare i8 @known(i8)
+define i8 @narrowed(ptr %p) {
+  %v = load i8, ptr %p, !range !0
+  ret i8 %v
+}
+define i8 @reads() {
+  %v = load i8, ptr @held
+  ret i8 %v
+}
+define i8 @reads_through() {
+  %p = load ptr, ptr @table
+  %v = load i8, ptr %p
+  ret i8 %v
+}
+define i8 @calls(i8 %x) {
+  %v = call i8 @known(i8 %x)
+  ret i8 %v
+}
+define i8 @apart(i8 %x) {
+  ret i8 %x
+}
+!0 = !{i8 0, i8 3}
+"""
+    done = bench.opt(text, "function(wrong-narrow)")
+    within("tv: NarrowPass @narrowed incorrect [blocks 1] by !range\n", done.stderr, "the row")
+    equal(done.stderr.count("\n  arg 0 = "), 1, "the rows")
+    done = bench.opt(text, "wrong-reached", "-tv-keep=kept")
+    for name in ("reads", "reads_through"):
+        within(f"tv: ReachedPass @{name} refused source Unsupported", done.stderr, name)
+    within("tv: ReachedPass @calls refused source Unsupported", done.stderr, "a declaration")
+    for name in ("apart", "narrowed"):
+        equal(f"@{name} " in done.stderr, False, f"a row of {name}")
+    before = bench.write("before.ll", text)
+    after = bench.write("after.ll", text.replace("i8 7", "i8 8"))
+    checked = bench.run(os.path.join(TOOLS, "tv-check"), "--lower", "--no-trace", before, after)
+    within("@reads refused source Unsupported", checked.stdout, "tv-check")
+
+
 def module_pass_is_seen(bench):
     text = SUM + "define internal i8 @unused() {\n  ret i8 0\n}\ndefine i8 @0(i8 %x) {\n" \
                  "  %s = add i8 %x, %x\n  ret i8 %s\n}\n"
@@ -285,7 +349,7 @@ def exits_on_error(bench):
 def report_is_read_by_baseline(bench):
     for _ in range(2):
         bench.opt(SUM, "wrong-sub", "-tv-report=rows", "-tv-functions=other", TV=bench.program(
-            "refuses", "echo 'tv 2'; echo '@other unknown weight'; echo 'correct 0'; exit 2"))
+            "heavy", report_of("@other unknown weight", "unknown") + "exit 2\n"))
     with open(bench.path("rows")) as file:
         lines = [json.loads(line) for line in file]
     equal([line["kind"] for line in lines], ["unknown", "end"] * 2, "the lines")
@@ -321,11 +385,80 @@ def slow_pair(bench):
 
 def failing_tv(bench):
     for body, row in (("exit 8", "failed status 8"), ("kill -9 $$", "failed status 137"),
-                      ("exit 0", "failed no row"), ("echo nonsense", "failed no row"),
-                      ("yes | head -c 3000000; exit 0", "failed no row")):
+                      ("exit 0", "failed no report"), ("echo nonsense", "failed no report"),
+                      ("echo oops; exit 9", "failed status 9: oops"),
+                      ("yes | head -c 3000000; exit 0", "failed no report")):
         done = bench.opt(SUM, "wrong-sub", TV=bench.program("fails", body + "\n"))
         within(f"tv: SubtractPass @sum {row}", done.stderr, body)
+        within("signature 0 failed 2\n", done.stderr, "the counts")
         equal(done.returncode, 0, f"the status after {body}")
+
+
+FIRST_LINE = "tv 2 turns 4 blocks 2 bytes 8 rounds 64 conflicts 0 weight 100000"
+KINDS = ["correct", "incorrect", "unknown", "refused", "signature", "missing", "extra"]
+
+
+def counts_of(kind):
+    return " ".join(f"{each} {int(each == kind)}" for each in KINDS)
+
+
+def report_of(row, kind, first=FIRST_LINE, counts=None):
+    """Shell commands that write a report with one row."""
+    lines = [first, row, counts or counts_of(kind)]
+    return "".join(f"echo '{line}'\n" for line in lines)
+
+
+def lying_tv(bench):
+    """A report counts only where it is whole: each of these is a row `failed`."""
+    good = report_of("@sum correct", "correct")
+    for body, row in (
+            (report_of("@sum correct\n@sum correct", "correct"), "one more line: @sum correct"),
+            (report_of("@other correct", "correct"), "a row of another function"),
+            (report_of("@sum right", "correct"), "no row: @sum right"),
+            (report_of("@sum correct weight", "correct"), "no row: @sum correct weight"),
+            (report_of("@sum refused source", "refused") + "exit 3", "no row: @sum refused"),
+            (report_of("@sum unknown", "unknown") + "exit 2", "no row: @sum unknown"),
+            (report_of("@sum correct", "incorrect"), "counts: correct 0 incorrect 1"),
+            (report_of("@sum correct", "correct", counts="correct 1"), "counts: correct 1"),
+            (report_of("@sum correct", "correct", first="tv 3"), "no report"),
+            (report_of("@sum correct", "correct", first=FIRST_LINE[:40]), "no report"),
+            (f"echo '{FIRST_LINE}'; echo '@sum correct'", "no report"),
+            (f"echo '{FIRST_LINE}'; echo '@sum correct'; printf '{counts_of('correct')}'",
+             "no report"),
+            (good + "echo", "counts: "), (good + "echo more", "counts: more"),
+            (good + "exit 1", "status 1: beside correct"),
+            (good + "kill -11 $$", "status 139"),
+            (report_of("@sum incorrect", "incorrect"), "status 0: beside incorrect"),
+            (report_of("@sum correct\n  arg 0 = 1", "correct"), "one more line:   arg 0 = 1")):
+        done = bench.opt(SUM, "wrong-sub", "-tv-functions=sum", "-tv-report=rows",
+                         TV=bench.program("lies", body + "\n"))
+        within(f"tv: SubtractPass @sum failed {row}", done.stderr, body)
+        within("tv: correct 0 incorrect 0 unknown 0 refused 0 signature 0 failed 1\n",
+               done.stderr, f"the counts after {body}")
+        equal(bench.run(os.path.join(TOOLS, "tv-baseline"), "none", "rows").returncode != 0, True,
+              f"no failure of a gate after {body}")
+        os.unlink(bench.path("rows"))
+    half = bench.program("half", f"if [ -e asked ]; then kill -9 $$; fi; touch asked\n{good}")
+    done = bench.opt(SUM, "wrong-sub", "-tv-functions=sum", TV=half)
+    within("@sum failed reach status 137\n", done.stderr, "the second question")
+
+
+def marked_rows_have_their_kind(bench):
+    """A marked row is counted apart, is printed by -tv-quiet, kept, and doesn't end the compiler."""
+    done = bench.opt(STORES, "wrong-alias", "-tv-quiet", "-tv-keep=kept", "-tv-report=rows")
+    within("fault may hide: arg0:noalias, arg1:noalias\n", done.stderr, "the row")
+    within("tv: correct 0 incorrect 0 unknown 0 refused 0 signature 0 marked 1\n", done.stderr,
+           "the counts")
+    equal(len(os.listdir(bench.path("kept"))), 2, "the files")
+    with open(bench.path("rows")) as file:
+        equal(json.loads(file.readline())["kind"], "marked", "the kind")
+    done = bench.opt(VARIABLES, "wrong-sub", "-tv-exit-on-error", "-tv-functions=adds",
+                     "-tv-report=more")
+    within("incorrect [blocks 1] by global; false alarm possible: @x\n", done.stderr, "the row")
+    within("signature 0 alarm 1\n", done.stderr, "the counts")
+    equal(done.returncode, 0, "the status")
+    with open(bench.path("more")) as file:
+        equal(json.loads(file.readline())["kind"], "alarm", "the kind")
 
 
 def missing_tv(bench):
@@ -390,7 +523,7 @@ def options_in_process(bench):
 
 def answers_in_process(bench):
     """Each status of the library gives its row; a long report is asked for again."""
-    for body, row in (("exit 8", "failed status 8"), ("exit 0", "failed no row"),
+    for body, row in (("exit 8", "failed status 8"), ("exit 0", "failed no report"),
                       ("echo too long source; exit 6", "failed status 6: too long source"),
                       ('for at; do :; done; echo "$at:3:1: no item"; exit 9',
                        "refused target no-item 3:1")):
@@ -398,8 +531,9 @@ def answers_in_process(bench):
                          TV=bench.program("fails", body + "\n"))
         within(f"tv: SubtractPass @sum {row}", done.stderr, body)
         equal(done.returncode, 0, f"the status after {body}")
-    long = bench.program("long", "echo 'tv 2'; echo '@sum incorrect'; "
-                         "yes '  arg 0 = 1' | head -n 20000; echo incorrect 1; exit 1\n")
+    long = bench.program("long", f"echo '{FIRST_LINE}'; echo '@sum incorrect'; "
+                         f"yes '  arg 0 = 1' | head -n 20000; echo '{counts_of('incorrect')}'; "
+                         "exit 1\n")
     done = bench.opt(SUM, "wrong-sub", "-tv-in-process", "-tv-functions=sum", plugin=STAND_IN,
                      TV=long, STAND_IN_LOG="log")
     equal(done.stderr.count("  arg 0 = 1\n"), 20000, "the lines of a long report")
@@ -466,10 +600,10 @@ def strange_code(bench):
 
 
 CASES = [pairs_have_their_rows, pairs_are_the_same_backwards, same_row_in_both, lowered_alone,
-         one_variable,
+         one_variable, conventions,
          layouts, wrong_pass_is_found, flags_alone_are_seen, module_pass_is_seen,
-         only_named_functions,
-         exits_on_error, report_is_read_by_baseline, pairs_are_kept, slow_pair, failing_tv,
+         only_named_functions, what_is_reached_is_seen, lying_tv,
+         marked_rows_have_their_kind, exits_on_error, report_is_read_by_baseline, pairs_are_kept, slow_pair, failing_tv,
          missing_tv, same_rows_in_process, no_library, options_in_process, answers_in_process,
          same_bytes, clang_by_variable, strange_code, integers]
 
