@@ -17,12 +17,13 @@ import importlib.util
 import os
 import re
 import sys
+import textwrap
 
 import tvlib
 
 TOP = os.path.dirname(tvlib.HERE)
 SCRIPTS = ["tv-check", "opt-tv", "tv-tree"]
-DATE = "December 2026"
+DATE = "2026-12-02"
 MADE = "Made by tools/manuals.py from the options of {}; not to be edited."
 FILES = {"FILE", "BASELINE", "REPORT"}
 FOLDERS = {"FOLDER", "DIR"}
@@ -207,7 +208,7 @@ def zsh_of(command):
     for name, (_, options) in command.commands.items():
         parts.append(f"  {name})\n    _arguments -S \\\n{zsh_options(options, '      ')}"
                      "      '*:file:_files' ;;\n")
-    return "".join(parts) + "esac\n"
+    return re.sub(r"(\.S[HS] .*\n)\.PP\n", r"\1", "".join(parts)) + "esac\n"
 
 
 def zsh_options(options, indent):
@@ -278,10 +279,10 @@ def man_of(command):
     summary, usage, *rest = command.paragraphs
     name = roff(command.name)
     parts = [f'.\\" {MADE.format(command.name)}\n.TH {command.name.upper()} 1 "{DATE}" tv\n',
-             f".SH NAME\n{name} \\- {roff(lowered(' '.join(summary)))}\n",
+             f".SH NAME\n{name} \\-\n{filled(lowered(' '.join(summary)))}",
              f".SH SYNOPSIS\n{literal(usage)}"]
     status = [part for part in rest if part[0].startswith("Status:")]
-    parts.append(".SH DESCRIPTION\n" + ".PP\n".join(
+    parts.append(".SH DESCRIPTION\n" + "".join(
         described(part) for part in rest if part not in status))
     parts.append(".SH OPTIONS\n" + listed(command.options))
     for each, (said, options) in command.commands.items():
@@ -289,7 +290,13 @@ def man_of(command):
     if status:
         parts.append(".SH EXIT STATUS\n" + "".join(map(described, status)))
     parts.append(".SH ENVIRONMENT\n" + environment(command))
-    return "".join(parts) + f".SH SEE ALSO\n{roff(SEE_ALSO)}\n"
+    return re.sub(r"(\.S[HS] .*\n)\.PP\n", r"\1", "".join(parts)) + f".SH SEE ALSO\n{filled(SEE_ALSO)}"
+
+
+def filled(text):
+    """A text in short lines, for roff."""
+    return roff("\n".join(textwrap.wrap(text, 72, break_long_words=False,
+                                        break_on_hyphens=False))) + "\n"
 
 
 def lowered(text):
@@ -297,24 +304,24 @@ def lowered(text):
 
 
 def literal(lines):
-    return ".nf\n" + "".join(roff(line.strip()) + "\n" for line in lines) + ".fi\n"
+    return ".nf\n" + "".join(roff(line[4:].rstrip()) + "\n" for line in lines) + ".fi\n"
 
 
 def described(lines):
     """A paragraph: text, entries of a name and what it is, or lines as they are typed."""
     if not lines[0].startswith("    "):
-        return roff(" ".join(line.strip() for line in lines)) + "\n"
+        return ".PP\n" + filled(" ".join(line.strip() for line in lines))
     entries = [re.match(r"    (\S.*?)(?:\s{2,}(\S.*))?$", line) for line in lines]
     if not all(entries) and not any(entry and entry.group(2) for entry in entries):
         return literal(lines)
     text = ""
     for line, entry in zip(lines, entries):
         if entry and entry.group(2):
-            text += f".TP\n.B {roff(entry.group(1))}\n{roff(entry.group(2))}\n"
+            text += f".TP\n.B {roff(entry.group(1))}\n{filled(entry.group(2))}"
         elif entry and not line.startswith("     "):
-            text += f".PP\n{roff(line.strip())}\n"
+            text += f".PP\n{filled(line.strip())}"
         else:
-            text += roff(line.strip()) + "\n"
+            text += filled(line.strip())
     return text
 
 
@@ -328,7 +335,7 @@ def listed(options):
             sign = option.sign if name.startswith("--") else " "
             shown = f"{sign}{value}" if value else ""
             heads.append(roff(f"{name}[{shown}]" if option.optional and shown else name + shown))
-        text += f".TP\n.B {', '.join(heads)}\n{roff(option.help)}\n"
+        text += f".TP\n.B {', '.join(heads)}\n{filled(option.help)}"
     return text
 
 
@@ -340,7 +347,7 @@ def environment(command):
     text = ""
     for name, said in known:
         if name in named or name in ("TV", "TV_ARGS", "TV_OPT"):
-            text += f".TP\n.B {name}\n{roff(' '.join(said.split()))}\n"
+            text += f".TP\n.B {name}\n{filled(' '.join(said.split()))}"
     return text
 
 
