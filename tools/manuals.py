@@ -15,6 +15,7 @@ import dataclasses
 import importlib.machinery
 import importlib.util
 import os
+import pathlib
 import re
 import sys
 import textwrap
@@ -374,7 +375,8 @@ def main():
             continue
         stale.append(name)
         if sys.argv[1:]:
-            tvlib.write_whole(path, text)
+            pathlib.Path(path).parent.mkdir(parents=True, exist_ok=True)
+            pathlib.Path(path).write_text(text)
     for name in stale:
         print(f"{'written' if sys.argv[1:] else 'not up to date'}: {name}")
     return 1 if stale and not sys.argv[1:] else 0

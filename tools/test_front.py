@@ -20,7 +20,6 @@ import tempfile
 
 sys.dont_write_bytecode = True
 
-import tvrun
 from test_tools import ARITH, DATA, TOOLS, Bench, equal, has, has_not
 
 TOP = os.path.dirname(TOOLS)
@@ -172,11 +171,11 @@ def correct_and_bounds(bench):
         equal(done.returncode, 0, f"status of {what}: {done.stdout}{done.stderr}")
         has(done.stdout, f"\n@f correct {said}\n")
         has(bench.file("page"), f"@f correct {said}")
-        row = tvrun.rows_of(done.stdout)[0]
+        again = bench.run("tv-baseline", "none", "-", "--name", "f", data=done.stdout)
+        has(again.stdout, "rows 1 incorrect 0 ")
         found = json.loads(bench.file("rows"))
-        bounds = " ".join(f"{key} {number}" for key, number in row.bounds.items())
-        equal((row.kind, row.detail or f"[{bounds}]"), ("correct", said), f"row read back, {what}")
-        equal(found["bounds"], row.bounds, f"bounds in JSON, {what}")
+        bounds = " ".join(f"{key} {number}" for key, number in found["bounds"].items())
+        equal(f"[{bounds}]" if bounds else "no bound", said, f"bounds in JSON, {what}")
         equal("no bound leaves" in found["meaning"], said == "no bound", f"meaning, {what}")
     done = bench.run("tv-check", "a.ll", "b.ll", "--turns", "9", **how)
     has(done.stdout, "@f correct no bound\n")
