@@ -167,7 +167,8 @@ def correct_and_bounds(bench):
     for what, text, said in RESTS:
         bench.write("a.ll", text)
         bench.write("b.ll", text.replace("add i8 %x, %x", "shl i8 %x, 1"))
-        done = bench.run("tv-check", "a.ll", "b.ll", "--json=rows", "--html=page", **how)
+        done = bench.run("tv-check", "a.ll", "b.ll", "--json=rows", "--html=page", "--seconds",
+                         "200", **how)
         equal(done.returncode, 0, f"status of {what}: {done.stdout}{done.stderr}")
         has(done.stdout, f"\n@f correct {said}\n")
         has(bench.file("page"), f"@f correct {said}")
@@ -189,7 +190,8 @@ def asks_again(bench):
     def row(*words, **more):
         with open(log, "w"):
             pass
-        done = bench.run("tv-check", "a.ll", "b.ll", *words, TV=fake, FAKE_LOG=log, **more)
+        limit = () if "--seconds" in words else ("--seconds", "200")
+        done = bench.run("tv-check", "a.ll", "b.ll", *limit, *words, TV=fake, FAKE_LOG=log, **more)
         asked = bench.file("log").splitlines()
         return done.stdout.splitlines()[1], asked
     once, more = "100000 64", "1000000 64"
