@@ -133,7 +133,7 @@ def quick_without_rt(bench):
 
 COUNTS = "correct 1 incorrect 1 unknown 1 refused 1 signature 0 missing 0 extra 0 vacuous 1\n"
 REPORT = """tv-check 1 turns 4 blocks 2 bytes 8 seconds 10
-@twice correct
+@twice correct no bound
 @bad_sum incorrect
   arg 0 %x = 0
   arg 1 %y = 1
@@ -173,7 +173,7 @@ def check_first(bench):
         equal(bench.file("rows").count("\n"), 2, "objects of the rows")
     done = bench.run("tv-check", "--opt", "-passes=double", ARITH, "--first", "-f", "twice")
     equal(done.returncode, 0, "status where none is incorrect")
-    has(done.stdout, "seconds 10 first\n@twice correct\ncorrect 1 incorrect 0 ")
+    has(done.stdout, "seconds 10 first\n@twice correct no bound\ncorrect 1 incorrect 0 ")
 
 
 def check_first_and_slow(bench):
@@ -200,10 +200,10 @@ def check_src_and_tgt(bench):
     bench.write("pair.ll", text + good)
     done = bench.run("tv-check", "pair.ll")
     equal((done.returncode, done.stderr), (0, ""), "status of a right pair")
-    has(done.stdout, "@src correct\n")
+    has(done.stdout, "@src correct no bound\n")
     done = bench.run("tv-check", "-", data=text + good + more + text.replace("src", "src_3"))
     equal(done.returncode, 1, "status of three pairs")
-    has(done.stdout, "@src correct\n", "@src2 incorrect\n", "@src_3 missing\n")
+    has(done.stdout, "@src correct no bound\n", "@src2 incorrect\n", "@src_3 missing\n")
     equal(bench.run("tv-check", "-", data=text + text.replace("src", "tgt")).stdout.split("\n")[1],
           "@src same", "the row of equal functions")
 
@@ -599,7 +599,7 @@ def check_bounds(bench):
                   "src4": "bounded source load undefined 50:8 [blocks 1]",
                   "src8": "bounded source store unreached 79:3 [blocks 1]",
                   "src5": "vacuous", "src6": "correct [blocks 1 bytes 24]",
-                  "src7": "correct",
+                  "src7": "correct [blocks 2 bytes 8]",
                   # an access that can't fit doesn't raise the bytes
                   "src9": "bounded source store undefined 124:3 [blocks 1]",
                   # an index that varies counts as 0, past what is constant
@@ -732,8 +732,8 @@ def opt_same(bench):
 def opt_asks_once(bench):
     log = os.path.join(bench.folder, "log")
     bench.run("opt-tv", "-S", "-passes=double,wrong", ARITH, FAKE_TV_LOG=log)
-    equal(bench.file("log").count("\n"), 7,
-          "runs of tv: a changed function each, and how far the two correct ones reach")
+    equal(bench.file("log").count("\n"), 8,
+          "runs of tv: a changed function each, one more asked again, and how far two correct ones reach")
 
 
 def opt_summary(bench):
@@ -800,7 +800,7 @@ def tree_resumes(bench):
     log = os.path.join(bench.folder, "log")
     tree_run(bench, "--out", "one", FAKE_TV_LOG=log)
     first = bench.file("log").count("\n")
-    equal(first, 8, "runs of tv: six pairs, and how far two correct ones reach")
+    equal(first, 9, "runs of tv: six pairs, one asked again, and how far two correct ones reach")
     done = tree_run(bench, "--out", "one", FAKE_TV_LOG=log)
     equal((done.returncode, bench.file("log").count("\n")), (1, first), "status and pairs")
 
@@ -923,7 +923,7 @@ def reduced_with_arguments(bench):
 def nothing_to_reduce(bench):
     done = bench.run("tv-reduce", ARITH, "-f", "twice", "-p", "double", "-o", "out.ll")
     equal((done.returncode, done.stderr),
-          (3, "tv-reduce: nothing to reduce: @twice correct\n"), "answer")
+          (3, "tv-reduce: nothing to reduce: @twice correct no bound\n"), "answer")
     equal(os.path.exists(os.path.join(bench.folder, "out.ll")), False, "a file")
 
 

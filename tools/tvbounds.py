@@ -18,6 +18,13 @@ LARGEST = {"turns": 64, "blocks": 4, "bytes": 32}
 BLOCK_ALIGN = 16
 ALIGN = re.compile(r", *align (\d+)\b")
 FAR = 256
+INTEGER = re.compile(r"i\d+\b")
+# A label; where a jump goes, with no name where that is in quotes; and what may give a pointer: a
+# global, a number, a call, a load of no number.
+LABEL = re.compile(r"^\s*([-\w.$]+):", re.M)
+JUMP = re.compile(r"\blabel\b(?:\s+%([-\w.$]+))?")
+FROM_OUTSIDE = re.compile(r"@|\b(?:inttoptr|call|invoke|callbr|va_arg)\b"
+                          r"|\bload\b(?!\s+(?:atomic\s+|volatile\s+)*i\d+\b)")
 MANY = 64
 SCALARS = {"ptr": 8, "half": 2, "bfloat": 2, "float": 4, "double": 8, "fp128": 16}
 
@@ -309,6 +316,41 @@ def fitted(source, target, name, given):
     if most.bytes > DEFAULTS["bytes"]:
         chosen.setdefault("bytes", most.bytes)
     return {key: number for key, number in chosen.items() if number != DEFAULTS.get(key)}
+
+
+def rested_on(source, target, name, chosen):
+    """Of some bounds and budgets those that a `correct` of the pair rests on: `turns` where a jump
+    of either function goes back, `blocks` and `bytes` where a pointer comes from outside; and the
+    budgets."""
+    functions = [module.functions[name] for module in (source, target)]
+    rests = {"turns": any(map(goes_back, functions)),
+             "blocks": any(map(takes_pointers, functions))}
+    rests["bytes"] = rests["blocks"]
+    return {**{key: chosen.get(key, usual) for key, usual in DEFAULTS.items() if rests[key]},
+            **{key: number for key, number in chosen.items() if key not in DEFAULTS}}
+
+
+def goes_back(function):
+    """Whether a jump goes to its own block or to an earlier one of the text, which tv counts as a
+    turn. A label that isn't found counts as an earlier one."""
+    text = body_of(function)
+    places = {}
+    for found in LABEL.finditer(text):
+        places.setdefault(found.group(1), found.start())
+    return any(places.get(found.group(1), -1) <= found.start() for found in JUMP.finditer(text))
+
+
+def takes_pointers(function):
+    """Whether a pointer may come from outside. Only where all parameters and all that is loaded are
+    numbers, no global is named, nothing is called and no number becomes a pointer, none does."""
+    return not (tvir.DEFINE.search(function.header)
+                and all(map(INTEGER.match, function.parameters))) \
+        or bool(FROM_OUTSIDE.search(body_of(function)))
+
+
+def body_of(function):
+    """What is behind a function's header, without comments and what is in quotes."""
+    return tvir.blank(function.text[function.brace:])
 
 
 # Reach.

@@ -66,6 +66,8 @@ def text_of(data, path):
         if done.status != 0:
             raise Failure(UNREADABLE, f"{path}: {last_line(done.errors) or 'llvm-dis failed'}")
         data = done.output
+    if b"\0" in data:
+        raise Failure(tvir.NOT_A_MODULE, f"{path}: neither LLVM's text nor bitcode")
     return data.decode("utf-8", "surrogateescape")
 
 

@@ -5,8 +5,8 @@ rows, tvout.py and tvpage.py forms of output.
 Programs and limits come from the environment, the same for every script:
 
     TV         the program tv (default: crates/tv/out/tv of this tree, then `tv` on the PATH)
-    TV_TRACE   the program tv_trace (default: crates/tv_trace/out/tv_trace of this tree, then one beside
-               tv, then `tv_trace` on the PATH; without one no trace is shown)
+    TV_TRACE   the program tv_trace (default: crates/tv_trace/out/tv_trace of this tree, then the one
+               beside tv, then `tv_trace` on the PATH; without one no trace is shown)
     TV_ARGS    arguments for every `tv check`, e.g. "--turns 8"
     TV_TIME    seconds after which a run of tv is ended from outside (default 10)
     TV_OPT     LLVM's opt (default: opt-19, then opt)
@@ -162,11 +162,17 @@ def tv_program():
     return program("TV", built, "tv")
 
 
+def trace_name(name):
+    """The name of the tv_trace that belongs to a tv of this name: tv_trace-quick to tv-quick."""
+    return "tv_trace" + (name[2:] if name.startswith("tv") else "")
+
+
 @functools.lru_cache(maxsize=None)
 def trace_program():
     """The program tv_trace, None where there is none and TV_TRACE names none."""
     built = os.path.join(os.path.dirname(HERE), "crates", "tv_trace", "out", "tv_trace")
-    beside = os.path.join(os.path.dirname(shutil.which(tv_program()) or ""), "tv_trace")
+    tv = shutil.which(tv_program()) or ""
+    beside = os.path.join(os.path.dirname(tv), trace_name(os.path.basename(tv)))
     if os.environ.get("TV_TRACE") or any(map(shutil.which, (built, beside, "tv_trace"))):
         return program("TV_TRACE", built, beside, "tv_trace")
     return None

@@ -27,6 +27,12 @@ MEANINGS = {
     "marked": "the target refines the source within the bounds, but a fault may hide",
     "alarm": "incorrect, but it may be a false alarm",
 }
+UNBOUNDED = "the target refines the source, and no bound leaves a run out"
+
+
+def meaning_of(row):
+    """What a row says, in words."""
+    return UNBOUNDED if row.kind == "correct" and row.detail == tvrun.NO_BOUND else MEANINGS[row.kind]
 
 
 def painted(text, colour, colours):
@@ -136,10 +142,11 @@ def object_of(pair, row):
     position = row.position() or (None, None, None)
     return {
         "file": pair.path, "against": pair.other, "function": row.name, "kind": row.kind,
-        "detail": row.detail, "meaning": MEANINGS[row.kind], "path": path, "first_line": line,
+        "detail": row.detail, "meaning": meaning_of(row), "path": path, "first_line": line,
         "side": position[0], "line": position[1], "column": position[2],
         "what": row.what, "advice": tvwhy.ADVICE.get(row.advice, ""),
-        "bounds": {**tvbounds.DEFAULTS, **row.bounds}, "seconds": row.seconds,
+        "bounds": row.bounds if row.kind == "correct" else {**tvbounds.DEFAULTS, **row.bounds},
+        "seconds": row.seconds,
         "counterexample": [dict(zip(("what", "name", "value", "forms"), point))
                            for point in points(row.lines, function)],
         "trace": row.trace,

@@ -36,6 +36,9 @@ HOW = re.compile(r"(?: by ((?:[-!\w.]+, )*[-!\w.]+))?"
                  r"(?:; (?:fault may hide|false alarm possible): (.+))?$")
 MARKS = {"correct": "fault may hide", "bounded": "fault may hide",
          "incorrect": "false alarm possible"}
+NO_BOUND = "no bound"
+# With which budgets a pair is asked again.
+LARGER = {"weight": [1_000_000], "rounds": [640, 4096]}
 # Promises of the caller: what a function does can't break them.
 OF_CALLER = re.compile(r"@[^:]*$|arg\d+:(align\(|dereferenceable|writable$|sret$)")
 
@@ -260,16 +263,20 @@ def judge(source, target, name, how):
     found = how.rows(sides["source"].text, sides["target"].text, bounds, [name])
     row = dataclasses.replace(found[0], name=name) if len(found) == 1 \
         else Row(name, "failed", f"{len(found)} rows")
+    if row.kind == "unknown":
+        row, bounds = asked_again(row, sides, how, bounds, begun)
     row = placed(row, sides, {"source": source, "target": target})
     if row.kind == "correct":
         row = reached(row, source, name, how, bounds)
+    if row.kind == "correct":
+        bounds = tvbounds.rested_on(source, target, name, {**how.given(), **bounds})
+        row.detail = "" if set(bounds) & set(tvbounds.DEFAULTS) else NO_BOUND
     if row.kind == "incorrect" and how.traces:
         row.trace = traced(row, sides, how, bounds)
     doubts = doubts_of(source, target, name, row.kind)
     rules = rules_of(source, target, name) or (["compared"] if doubts else [])
     row = dataclasses.replace(row, seconds=round(time.monotonic() - begun, 3),
-                              bounds=shown_bounds(bounds) if row.kind in JUDGED else {},
-                              rules=rules, doubts=doubts)
+                              bounds=shown_bounds(bounds, row.kind), rules=rules, doubts=doubts)
     return row.as_doubtful()
 
 
@@ -307,19 +314,23 @@ def only_one_has(source, target):
 
 
 def traced(row, sides, how, bounds):
-    """The lines of both runs of a counterexample, step by step; none without a tv_trace, or where
-    it doesn't answer in time. It has the row as a report, so that it need not judge again."""
+    """The lines of both runs of a counterexample, step by step, or one that says why there are none.
+    tv_trace has the row as a report, so that it need not judge again."""
     program = tvlib.trace_program()
     if not program:
-        return []
+        return ["no trace: tv_trace was not found"]
     files = files_of(sides["source"].text, sides["target"].text)
     report = file_of("report", row.whole())
     words = limits_among([*how.words, *tvlib.tv_args()])
     done = tvlib.run([program, *files, "--function", row.name, "--report", report, *words,
                       *how.added(bounds)], seconds=how.seconds)
+    if done.status != STATUSES["incorrect"]:
+        ended = f"ended with status {done.status}" if done.status is not None \
+            else f"ran longer than {how.seconds:g} s"
+        return [f"no trace: tv_trace {ended}"]
     lines = done.output.decode("utf-8", "surrogateescape").splitlines()
     begin = next((at for at, line in enumerate(lines) if line.startswith("source,")), len(lines))
-    return lines[begin:] if done.status == STATUSES["incorrect"] else []
+    return lines[begin:]
 
 
 def limits_among(words):
@@ -332,9 +343,32 @@ def limits_among(words):
     return found
 
 
-def shown_bounds(bounds):
-    """Those of some bounds that aren't tv's own."""
-    return {key: number for key, number in bounds.items() if number != tvbounds.DEFAULTS.get(key)}
+def shown_bounds(bounds, kind):
+    """The bounds that a row shows: a correct one those that it rests on, others those that aren't
+    tv's own."""
+    if kind == "correct":
+        return bounds
+    return {key: number for key, number in bounds.items()
+            if kind in JUDGED and number != tvbounds.DEFAULTS.get(key)}
+
+
+def asked_again(row, sides, how, bounds, begun):
+    """A row whose weight or rounds ran out, and its bounds; or what tv says with more of them while
+    time is left, and the bounds with those budgets. A budget that the user gave stays as it is."""
+    given = [word[2:] for word in limits_among([*how.words, *tvlib.tv_args()])[::2]]
+    latest, more = row, dict(bounds)
+    while latest.kind == "unknown" and latest.detail in LARGER and latest.detail not in given:
+        larger = [number for number in LARGER[latest.detail] if number > more.get(latest.detail, 0)]
+        left = how.seconds - (time.monotonic() - begun)
+        if not larger or left <= 0:
+            break
+        more[latest.detail] = larger[0]
+        found = dataclasses.replace(how, seconds=left).rows(
+            sides["source"].text, sides["target"].text, more, [row.name])
+        latest = found[0] if len(found) == 1 else row
+    if latest.kind in ("correct", "incorrect"):
+        return dataclasses.replace(latest, name=row.name), more
+    return row, bounds
 
 
 def placed(row, sides, modules):

@@ -17,12 +17,12 @@ define i8 @never(i8 %x) {
 }
 
 define i64 @heavy(i64 %x, i64 %y) {
-  %a = mul i64 %x, %y
-  %b = mul i64 %a, %y
-  %c = mul i64 %b, %y
-  %d = mul i64 %c, %y
-  %e = mul i64 %d, %y
-  %f = mul i64 %e, %y
+  %a0 = mul i64 %x, %y  %a1 = mul i64 %a0, %y  %a2 = mul i64 %a1, %y  %a3 = mul i64 %a2, %y  %a4 = mul i64 %a3, %y  %a = mul i64 %a4, %y
+  %b0 = mul i64 %a, %y  %b1 = mul i64 %b0, %y  %b2 = mul i64 %b1, %y  %b3 = mul i64 %b2, %y  %b4 = mul i64 %b3, %y  %b = mul i64 %b4, %y
+  %c0 = mul i64 %b, %y  %c1 = mul i64 %c0, %y  %c2 = mul i64 %c1, %y  %c3 = mul i64 %c2, %y  %c4 = mul i64 %c3, %y  %c = mul i64 %c4, %y
+  %d0 = mul i64 %c, %y  %d1 = mul i64 %d0, %y  %d2 = mul i64 %d1, %y  %d3 = mul i64 %d2, %y  %d4 = mul i64 %d3, %y  %d = mul i64 %d4, %y
+  %e0 = mul i64 %d, %y  %e1 = mul i64 %e0, %y  %e2 = mul i64 %e1, %y  %e3 = mul i64 %e2, %y  %e4 = mul i64 %e3, %y  %e = mul i64 %e4, %y
+  %f0 = mul i64 %e, %y  %f1 = mul i64 %f0, %y  %f2 = mul i64 %f1, %y  %f3 = mul i64 %f2, %y  %f4 = mul i64 %f3, %y  %f = mul i64 %f4, %y
   %r = add i64 %f, %f
   ret i64 %r
 }
