@@ -92,7 +92,7 @@ def plain_lines(row, function, colours=False):
     """A row as the text report has it, without a trace."""
     kind = painted(row.kind, COLOURS.get(row.kind, FAINT), colours)
     rest = row.text()[len(f"@{row.name} {row.kind}"):]
-    return [f"@{row.name} {kind}{rest}", *point_lines(row.lines, function)]
+    return [f"@{row.name} {kind}{rest}", *row.shown_lines(), *point_lines(row.lines, function)]
 
 
 def refusals(rows):

@@ -33,6 +33,7 @@ HOW = re.compile(r" by ((?:[-!\w.]+, )*[-!\w.]+)"
 MARKS = {"correct": "fault may hide", "bounded": "fault may hide",
          "incorrect": "false alarm possible"}
 TRACED = "    | "
+SHOWN = "  | "
 # Promises of the caller: what a function does can't break them.
 OF_CALLER = re.compile(r"@[^:]*$|arg\d+:(align\(|dereferenceable|writable$|sret$)")
 
@@ -42,7 +43,8 @@ class Row:
     """A row of a report: name, kind, what follows the kind, and the lines of a counterexample.
     Of a row that these scripts made also the bounds that aren't tv's own, the seconds that its
     processes took, of a refusal what is at its position and the class of advice for it, and of a
-    counterexample the lines of both runs, step by step, where they were asked for. Where both
+    counterexample the lines of both runs, step by step, where they were asked for; `shown` is the
+    line that it is about, where the user has no file with that line. Where both
     functions were written out by the plugin, the rules by which they were, and the promises of
     which tv wasn't told and that make the row doubtful."""
     name: str
@@ -56,6 +58,7 @@ class Row:
     trace: list = dataclasses.field(default_factory=list)
     rules: list = dataclasses.field(default_factory=list)
     doubts: list = dataclasses.field(default_factory=list)
+    shown: str = ""
 
     def text(self):
         """The row as a line: name, kind, detail, the bounds in brackets, rules and doubts."""
@@ -72,7 +75,11 @@ class Row:
 
     def whole(self):
         """The row with its lines."""
-        return "\n".join([self.text(), *self.lines]) + "\n"
+        return "\n".join([self.text(), *self.shown_lines(), *self.lines]) + "\n"
+
+    def shown_lines(self):
+        """The line that the row is about, as a line of a report."""
+        return [SHOWN + self.shown] if self.shown else []
 
     def position(self):
         """Side, line and column of a refusal or of an access, or None."""
@@ -114,6 +121,8 @@ def rows_of(report):
             last = rows[-1]
         elif line.startswith(TRACED) and last:
             last.trace.append(line[len(TRACED):])
+        elif line.startswith(SHOWN) and last:
+            last.shown = line[len(SHOWN):]
         elif line.startswith("  ") and last:
             last.lines.append(line)
         else:
@@ -260,13 +269,15 @@ def judge(source, target, name, how):
     found = how.rows(sides["source"].text, sides["target"].text, bounds)
     row = dataclasses.replace(found[0], name=name) if len(found) == 1 \
         else Row(name, "failed", f"{len(found)} rows")
-    row = placed(row, sides, {"source": source, "target": target})
+    modules = {"source": source, "target": target}
+    row = placed(row, sides, modules)
     if row.kind == "correct":
         row = reached(row, source, name, how, bounds)
     if row.kind == "incorrect" and how.traces:
         row.trace = traced(row, sides, how, bounds)
     return dataclasses.replace(row, seconds=round(time.monotonic() - begun, 3),
                                bounds=shown_bounds(bounds) if row.kind in JUDGED else {},
+                               shown=shown_line(row, modules),
                                rules=rules_of(source, target, name),
                                doubts=doubts_of(source, target, name, row.kind))
 
@@ -333,6 +344,12 @@ def placed(row, sides, modules):
     detail = POSITION.sub(f"{line}:{column}", row.detail)
     what, advice = tvwhy.explained(modules[side], row.reason(), line, column)
     return dataclasses.replace(row, detail=detail, what=what, advice=advice)
+
+
+def shown_line(row, modules):
+    """The line at a row's position, where the user has no file with that line."""
+    position = row.position()
+    return modules[position[0]].shown(position[1]) if position else ""
 
 
 def reached(row, source, name, how, bounds):
