@@ -90,6 +90,7 @@ def modules_of(texts, paths):
 
 # The least that tv can be asked of a pair: it reads the modules, and lists their functions.
 LISTING = ["--weight", "1", "--rounds", "0", "--workers", "1"]
+MOST_UNREAD = 16
 BAD_LAYOUT = "data layout"
 LAYOUT = re.compile(r'"[^"]*"')
 USUAL_LAYOUT = '"e-m:e-i64:64-n8:16:32:64-S128"'
@@ -97,11 +98,11 @@ USUAL_LAYOUT = '"e-m:e-i64:64-n8:16:32:64-S128"'
 
 def check_names(source, target):
     """Fails unless tv finds the functions that were found here, on the same sides."""
+    rows, unread = listed(source, target)
     here = {name: "missing" if name not in target.functions
             else "extra" if name not in source.functions else "both"
-            for name in tvir.names_of(source, target)}
-    there = {row.name: row.kind if row.kind in ("missing", "extra") else "both"
-             for row in listed([source, target])}
+            for name in tvir.names_of(source, target) if name not in unread}
+    there = {row.name: row.kind if row.kind in ("missing", "extra") else "both" for row in rows}
     reader = "LLVM" if source.document else "the cut by text"
     for name in [*here, *there]:
         if here.get(name) != there.get(name):
@@ -115,27 +116,34 @@ def found_on(sides, name):
             "both": "in both modules"}.get(sides.get(name), "in neither module")
 
 
-def listed(modules):
-    """tv's rows on two modules, whatever they say of each function. A data layout that tv doesn't
-    read is refused for each function: here another one stands in for it."""
+def listed(source, target):
+    """tv's rows on two modules, whatever they say of each function, and the names of functions that
+    LLVM reads and that tv takes for no item: these are left out, for tv is asked about each by
+    itself. Another data layout stands in for one that tv doesn't read: it is refused there too."""
+    modules, unread = [source, target], set()
     texts = [module.text for module in modules]
-    for _ in range(3):
+    for _ in range(MOST_UNREAD):
         files = tvrun.files_of(*texts)
         done = tvlib.run([tvlib.tv_program(), "check", *LISTING, *files], seconds=OPT_SECONDS,
                          group=True)
         output = done.output.decode("utf-8", "surrogateescape")
         fault = tvrun.FAULT.match(output) if done.status == tvir.NOT_A_MODULE else None
         if done.status in range(4):
-            return tvrun.rows_of(output)
+            return tvrun.rows_of(output), unread
         if not fault:
             break
-        side, line, column, why = fault.groups()
-        at = 0 if side == "before" else 1
-        if why != BAD_LAYOUT:
-            raise Failure(tvir.NOT_A_MODULE, f"{modules[at].path}:{line}:{column}: {why}")
-        texts[at] = with_usual_layout(texts[at], int(line))
+        at, line, why = int(fault.group(1) == "after"), int(fault.group(2)), fault.group(4)
+        name = modules[at].function_on(line) if source.document else None
+        if why == BAD_LAYOUT:
+            texts[at] = with_usual_layout(texts[at], line)
+        elif name and name not in unread:
+            unread.add(name)
+            texts = [module.without(unread) for module in modules]
+        else:
+            raise Failure(FAULT if source.document else tvir.NOT_A_MODULE,
+                          f"{modules[at].path}:{line}:{fault.group(3)}: {why}")
     ended = "took too long" if done.status is None else f"ended with status {done.status}"
-    raise Failure(FAULT, f"{modules[0].path}: tv was asked for its functions, and {ended}")
+    raise Failure(FAULT, f"{source.path}: tv was asked for its functions, and {ended}")
 
 
 def with_usual_layout(text, line):

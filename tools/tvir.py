@@ -267,6 +267,20 @@ class Module:
         """The words of an attribute of a function that the plugin wrote, e.g. `tv-rules`."""
         return self.functions[name].notes.get(key, "").split() if self.raw else []
 
+    def function_on(self, line):
+        """The name of the function that a line is of, or None."""
+        return next((each.name for each in self.bodies
+                     if each.first <= line < each.first + each.text.count("\n")), None)
+
+    def without(self, names):
+        """The text with empty lines for these functions."""
+        lines = self.text.split("\n")
+        for function in self.bodies:
+            if function.name in names:
+                begin, count = function.first - 1, function.text.count("\n")
+                lines[begin:begin + count] = [""] * count
+        return "\n".join(lines)
+
     @functools.cached_property
     def given_lines(self):
         return self.given.splitlines()
