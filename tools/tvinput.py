@@ -343,9 +343,8 @@ def of_opt(path, args, before, lower=False):
             return Pair(path, path, fault=f"opt {shlex.join(words)}: {why}")
         texts.append(done.output)
     pair = pair_of(path, f"opt {args}", texts[-2:], lower)
-    pair.original = copy.copy(pair.original)
-    if not tvir.is_bitcode(data):
-        pair.original.given = data.decode("utf-8", "surrogateescape")
-    for module in [pair.source, pair.target][not before:]:
-        module.given = ""
+    pair.target.given = ""
+    if before:
+        pair.original, pair.source.given = copy.copy(pair.original), ""
+        pair.original.given = "" if tvir.is_bitcode(data) else data.decode("utf-8", "surrogateescape")
     return pair

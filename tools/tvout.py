@@ -195,11 +195,11 @@ LEVELS = {"incorrect": "error", "unknown": "warning", "vacuous": "warning", "bou
 
 def result_of(pair, row):
     """A row as a SARIF result, at the function's line, or at the position of an access or a
-    refusal where that is in the same file."""
+    refusal where the same line is in the file."""
     path, line = pair.place(row.name)
     function = pair.source.functions.get(row.name)
     region = {"startLine": max(1, line)}
-    position = row.position()
+    position = None if row.shown else row.position()
     if position and position[0] == "source" and pair.original is pair.source:
         region = {"startLine": position[1], "startColumn": position[2]}
     if position and position[0] == "target" and os.path.isfile(pair.other):
