@@ -107,6 +107,16 @@ SAME = [
 ]
 
 
+NAMES = [r'"a\22b"', r'"\01f"', '"\u00e9"', r'"a\5Cb"', r'"a\\\\"', "-x", '"0"', r'"x\0Ay"', "$x.1", '"tv.0"']
+
+
+def names(bench):
+    """Names that LLVM and tv print in different ways."""
+    text = "".join(FUNCTION.replace("@f", f"@{name}") for name in NAMES)
+    done = pair(bench, text, text.replace("add i8 %x, %x", "shl i8 %x, 1"))
+    equal((done.returncode, done.stdout.count(" correct\n")), (0, len(NAMES)), "rows of all names")
+
+
 def pair(bench, before, after, *args, **variables):
     bench.write("a.ll", before)
     bench.write("b.ll", after)
@@ -307,7 +317,7 @@ def tv_that_lies(bench):
         equal(done.returncode, 2, f"status where tv {what}: {done.stdout}{done.stderr}")
 
 
-ALWAYS = [src_and_tgt, folders, empty_folder, tv_that_lies]
+ALWAYS = [names, src_and_tgt, folders, empty_folder, tv_that_lies]
 WITHOUT = [apart_without_llvm, same_without_llvm, *ALWAYS]
 WITH = [apart_with_llvm, same_for_llvm, positions, llvm_says, blocks_of_others, split_that_lies,
         split_that_fails, split_is_missing, *ALWAYS]

@@ -102,7 +102,7 @@ def check_names(source, target):
     here = {name: "missing" if name not in target.functions
             else "extra" if name not in source.functions else "both"
             for name in tvir.names_of(source, target) if name not in unread}
-    there = {row.name: row.kind if row.kind in ("missing", "extra") else "both" for row in rows}
+    there = {tvir.canonical(row.name): row.kind if row.kind in ("missing", "extra") else "both" for row in rows}
     reader = "LLVM" if source.document else "the cut by text"
     for name in [*here, *there]:
         if here.get(name) != there.get(name):
@@ -197,7 +197,7 @@ def attempted(path, other, make, among_others=True):
         if failure.status != FAULT and (not among_others or failure.status not in
                                         (WORDS, UNREADABLE, tvir.NOT_A_MODULE)):
             raise
-        return Pair(path, other, fault=str(failure))
+        return Pair(path, other, fault=str(failure).removeprefix(f"{path}: "))
 
 
 def written_out(module, other):

@@ -27,7 +27,8 @@ DEFINE = re.compile(rf"@({NAME})\s*\(")
 MENTION = re.compile(rf"[%@](?:{NAME})|#\d+")
 QUIET = re.compile(r'"[^"]*"|;[^\n]*')
 COMMENT = re.compile(r'("[^"]*")|;[^\n]*')
-PLAIN = re.compile(r'"([-a-zA-Z$._][-\w$.]*)"')
+PLAIN = re.compile(r"[-a-zA-Z$._][-a-zA-Z0-9$._]*")
+ESCAPED = re.compile(rb"\\(?:([0-9A-Fa-f]{2})|\\)")
 TYPE = re.compile(rf"(%(?:{NAME}))\s*=\s*type\s+(.*)")
 
 
@@ -42,8 +43,15 @@ def bare(text):
 
 
 def canonical(name):
-    """A name as LLVM and tv print it: without quotes where they aren't needed."""
-    return PLAIN.sub(r"\1", name)
+    """A name as tv prints it: without quotes where they aren't needed, else with each byte that is
+    no plain character in hexadecimal. LLVM's print has other quotes, and `\\\\` for a backslash."""
+    if not name.startswith('"'):
+        return name
+    data = ESCAPED.sub(lambda found: bytes.fromhex(found.group(1).decode()) if found.group(1)
+                       else b"\\", name[1:-1].encode("utf-8", "surrogateescape"))
+    text = "".join(chr(byte) if 32 <= byte < 127 and byte not in b'"\\' else f"\\{byte:02X}"
+                   for byte in data)
+    return text if PLAIN.fullmatch(text) else f'"{text}"'
 
 
 @dataclasses.dataclass(frozen=True)
@@ -427,13 +435,13 @@ def function_in(found, lines):
     text = "".join(lines[found["first"] - 1:found["first"] - 1 + found["lines"]])
     alone = found.get("alone")
     if alone:
-        alone = Alone(alone["text"], alone["name"], alone["first"], alone["lines"], found["first"])
+        alone = Alone(alone["text"], canonical(alone["name"]), alone["first"], alone["lines"], found["first"])
         text = alone.parts()[1]
     if not text.startswith("define ") or not text.endswith("}\n") or found["lines"] < 1 \
             or alone and alone.count != found["lines"]:
         raise ValueError("not a function")
     notes = {note["key"]: note["value"] for note in found["notes"]}
-    return Function(found["name"], found["first"], text, alone, found["same"] is True, notes)
+    return Function(canonical(found["name"]), found["first"], text, alone, found["same"] is True, notes)
 
 
 def check_same(source, target):
