@@ -282,8 +282,8 @@ def split_that_lies(bench):
 
 SCRIPTS = [("crashes", "kill -SEGV $$"), ("is killed", "kill -KILL $$"), ("is silent", "exit 0"),
            ("fails", "exit 3"), ("fails on the first", "exit 1"), ("says rubbish", "echo '{'"),
-           ("is cut", '{real} "$@" | head -c 700'),
-           ("is cut and fails", '{real} "$@" | head -c 700; exit 1')]
+           ("is cut", '{real} "$@" | head -c 200'),
+           ("is cut and fails", '{real} "$@" | head -c 200; exit 1')]
 
 
 def split_that_fails(bench):

@@ -701,7 +701,7 @@ def opt_slow_pair(bench):
 
 def opt_whole_refusal(bench):
     bench.run("opt-tv", "-S", "-passes=double", WHOLE)
-    has(bench.only("tv-out", ".txt"), "@good correct")
+    has(bench.only("tv-out", ".txt"), "not judged: input:1:1: no token\n")
 
 
 def opt_judges_nothing(bench):

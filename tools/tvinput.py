@@ -102,7 +102,8 @@ def check_names(source, target):
     here = {name: "missing" if name not in target.functions
             else "extra" if name not in source.functions else "both"
             for name in tvir.names_of(source, target) if name not in unread}
-    there = {tvir.canonical(row.name): row.kind if row.kind in ("missing", "extra") else "both" for row in rows}
+    there = {tvir.canonical(row.name): row.kind if row.kind in ("missing", "extra") else "both"
+             for row in rows}
     reader = "LLVM" if source.document else "the cut by text"
     for name in [*here, *there]:
         if here.get(name) != there.get(name):
@@ -346,5 +347,6 @@ def of_opt(path, args, before, lower=False):
     pair.target.given = ""
     if before:
         pair.original, pair.source.given = copy.copy(pair.original), ""
-        pair.original.given = "" if tvir.is_bitcode(data) else data.decode("utf-8", "surrogateescape")
+        pair.original.given = "" if tvir.is_bitcode(data) else \
+            data.decode("utf-8", "surrogateescape")
     return pair

@@ -306,7 +306,8 @@ class Module:
         if self.given is self.text:
             return first
         begins = re.compile(rf"\s*define\b.*@\"?{re.escape(name.strip(chr(34)))}\"?\s*\(")
-        return next((at for at, line in enumerate(self.given_lines, 1) if begins.match(line)), first)
+        found = (at for at, line in enumerate(self.given_lines, 1) if begins.match(line))
+        return next(found, first)
 
     def rest(self, line, column):
         """The text of a line from a column (in bytes, from 1) on; empty at the end."""
@@ -435,13 +436,15 @@ def function_in(found, lines):
     text = "".join(lines[found["first"] - 1:found["first"] - 1 + found["lines"]])
     alone = found.get("alone")
     if alone:
-        alone = Alone(alone["text"], canonical(alone["name"]), alone["first"], alone["lines"], found["first"])
+        alone = Alone(alone["text"], canonical(alone["name"]), alone["first"], alone["lines"],
+                      found["first"])
         text = alone.parts()[1]
     if not text.startswith("define ") or not text.endswith("}\n") or found["lines"] < 1 \
             or alone and alone.count != found["lines"]:
         raise ValueError("not a function")
     notes = {note["key"]: note["value"] for note in found["notes"]}
-    return Function(canonical(found["name"]), found["first"], text, alone, found["same"] is True, notes)
+    return Function(canonical(found["name"]), found["first"], text, alone, found["same"] is True,
+                    notes)
 
 
 def check_same(source, target):

@@ -249,8 +249,7 @@ std::string tv::Reach::nameOf(const GlobalValue &Global) {
   return Prefix + std::to_string(Numbers.lookup(&Global));
 }
 
-std::string
-tv::Reach::unusedPrefix(ArrayRef<const Module *> Modules) {
+std::string tv::Reach::unusedPrefix(ArrayRef<const Module *> Modules) {
   std::string Prefix = "unnamed.";
   while (any_of(Modules, [&](const Module *M) {
     return any_of(M->global_values(), [&](const GlobalValue &Global) {

@@ -20,7 +20,8 @@ public:
     uint64_t End;
   };
 
-  void emitFunctionAnnot(const Function *F, formatted_raw_ostream &Out) override {
+  void emitFunctionAnnot(const Function *F,
+                         formatted_raw_ostream &Out) override {
     if (!F->isDeclaration())
       Marks.push_back({F, Out.tell(), 0});
   }
@@ -66,8 +67,8 @@ tv::Printed tv::print(const Module &M) {
   M.print(Stream, &Marks);
   Stream.flush();
   // A print without a head begins with an empty line.
-  size_t Dropped = std::min(Found.Text.find_first_not_of('\n'),
-                            Found.Text.size());
+  size_t Dropped =
+      std::min(Found.Text.find_first_not_of('\n'), Found.Text.size());
   ModuleSlotTracker Slots(&M, /*ShouldInitializeAllMetadata=*/false);
   StringRef Text = Found.Text;
   size_t Counted = Dropped;

@@ -32,8 +32,14 @@ using namespace llvm;
 
 namespace {
 
-enum Status { Success, FirstIsNoModule, SecondIsNoModule, Words, Unreadable,
-              Unwritten };
+enum Status {
+  Success,
+  FirstIsNoModule,
+  SecondIsNoModule,
+  Words,
+  Unreadable,
+  Unwritten
+};
 
 /// One of the modules. Each has a context of its own: two modules in one would
 /// get different names for types of equal names.
