@@ -45,7 +45,7 @@ def printed(body):
         script = "\n".join(line[2:] for line in commands)
         done = subprocess.run(["sh", "-c", script], cwd=folder, capture_output=True, text=True,
                               env={**os.environ, "TV": tvlib.tv_program(), "TV_TRACE": "false",
-                                   "TV_TIME": str(SECONDS)})
+                                   "TV_LLVM_NONE": "1", "TV_TIME": str(SECONDS)})
     output = (done.stdout + done.stderr).replace(f"seconds {SECONDS}", "seconds 10")
     return "".join(line + "\n" for line in commands) + output
 

@@ -708,7 +708,7 @@ def opt_slow_pair(bench):
 
 def opt_whole_refusal(bench):
     bench.run("opt-tv", "-S", "-passes=double", WHOLE)
-    has(bench.only("tv-out", ".txt"), "@good correct")
+    has(bench.only("tv-out", ".txt"), "not judged: input:1:1: no token\n")
 
 
 def opt_judges_nothing(bench):
@@ -1446,7 +1446,7 @@ def llvm_version(opt):
 def cases():
     """Name, test and environment of each case; says what is skipped."""
     fake = {"TV": os.path.join(DATA, "fake-tv"), "TV_TRACE": "false", "TV_OPT": os.path.join(DATA, "wrong-opt"),
-            "TV_REDUCE": os.path.join(DATA, "fake-reduce")}
+            "TV_REDUCE": os.path.join(DATA, "fake-reduce"), "TV_LLVM_NONE": "1"}
     real = real_tv()
     opt = os.environ.get("TV_OPT") or shutil.which("opt-19") or shutil.which("opt")
     reduce = os.environ.get("TV_REDUCE") or shutil.which("llvm-reduce-19")

@@ -1,45 +1,105 @@
-"""Modules of LLVM IR as text: cut into functions, put together again, and looked up by position.
+"""Modules of LLVM IR: their functions, each with all that it reaches, and what is at a position.
 
-Nothing here reads LLVM IR as `tv` does. A module is lines; a function is the lines from `define`
-to its last brace; the other items are single lines that are found by the names that they define.
+Where LLVM is on the machine its own parser reads modules: the program tv-split (llvm/split) prints
+them, says where their functions are and which are the same, and cuts each that isn't the same out
+with all that it reaches (`modules_by_llvm`). Without it a module is a text that is cut at the
+functions that it defines (`Module`), and all else stays around each of them, byte for byte. In
+both ways the functions are held against those that `tv` finds (tvinput.py).
+
+Regular expressions read what is cosmetic, such as the names of arguments, and what only chooses a
+question, such as bounds: never what a function is, what it reaches, or what is the same.
 """
 import dataclasses
 import functools
+import json
+import os
 import re
+import shutil
+import tempfile
 
+import tvlib
 from tvlib import Failure
 
 NOT_A_MODULE = 9
+FAULT = 2
 NAME = r'"[^"]*"|[-\w.$]+'
 DEFINE = re.compile(rf"@({NAME})\s*\(")
-ITEM = re.compile(rf"(?:declare\b.*?(@(?:{NAME}))\s*\(|([%@](?:{NAME}))\s*=|attributes (#\d+)\s*=)")
 MENTION = re.compile(rf"[%@](?:{NAME})|#\d+")
-QUIET = re.compile(r'"[^"]*"|;.*')
-COMMENT = re.compile(r'("[^"]*")|;.*')
-PLAIN = re.compile(r'"([-a-zA-Z$._][-\w$.]*)"')
+QUIET = re.compile(r'"[^"]*"|;[^\n]*')
+COMMENT = re.compile(r'("[^"]*")|;[^\n]*')
+PLAIN = re.compile(r"[-a-zA-Z$._][-a-zA-Z0-9$._]*")
+ESCAPED = re.compile(rb"\\(?:([0-9A-Fa-f]{2})|\\)")
+TYPE = re.compile(rf"(%(?:{NAME}))\s*=\s*type\s+(.*)")
 
 
 def blank(text):
-    """The text with spaces for strings and comments."""
-    return QUIET.sub(lambda found: " " * len(found.group()), text)
+    """The text with spaces for strings and comments; lines stay lines."""
+    return QUIET.sub(lambda found: re.sub(r"[^\n]", " ", found.group()), text)
 
 
-def bare(line):
-    """A line without its comment."""
-    return COMMENT.sub(lambda found: found.group(1) or "", line).rstrip()
+def bare(text):
+    """A text without its comments, and without blanks at its end."""
+    return COMMENT.sub(lambda found: found.group(1) or "", text).rstrip()
 
 
 def canonical(name):
-    """A name as LLVM and tv print it: without quotes where they aren't needed."""
-    return PLAIN.sub(r"\1", name)
+    """A name as tv prints it: without quotes where they aren't needed, else with each byte that is
+    no plain character in hexadecimal. LLVM's print has other quotes, and `\\\\` for a backslash."""
+    if not name.startswith('"'):
+        return name
+    data = ESCAPED.sub(lambda found: bytes.fromhex(found.group(1).decode()) if found.group(1)
+                       else b"\\", name[1:-1].encode("utf-8", "surrogateescape"))
+    text = "".join(chr(byte) if 32 <= byte < 127 and byte not in b'"\\' else f"\\{byte:02X}"
+                   for byte in data)
+    return text if PLAIN.fullmatch(text) else f'"{text}"'
+
+
+@dataclasses.dataclass(frozen=True)
+class Alone:
+    """One function as a module: its text, the name that it has there, the first line of the
+    function and the number of its lines; `whole` is the function's first line in the whole module.
+    Where LLVM didn't cut it, all lines are those of the whole module."""
+    text: str
+    name: str
+    first: int
+    count: int
+    whole: int
+
+    def line(self, number):
+        """The whole module's line for one of this text, as far as it is one of the function."""
+        inside = self.first <= number < self.first + self.count
+        return number + self.whole - self.first if inside or self.first == self.whole \
+            else self.whole
+
+    def parts(self):
+        """The text before the function, the function, and the text after it."""
+        lines = self.text.splitlines(keepends=True)
+        begin, end = self.first - 1, self.first - 1 + self.count
+        return ["".join(part) for part in (lines[:begin], lines[begin:end], lines[end:])]
+
+    def replaced(self, text):
+        """The same surroundings of another text."""
+        before, _, after = self.parts()
+        count = len(text.splitlines())
+        return dataclasses.replace(self, text=before + text + after, count=count)
 
 
 @dataclasses.dataclass(frozen=True)
 class Function:
-    """A function with a body of a module: its name, its first line (from 1), its text."""
+    """A function with a body: its name, its first line in the module (from 1), its text. Where LLVM
+    cut it out, also the function alone, whose text it has then; whether it is the same in the other
+    module; and the attributes that the plugin wrote."""
     name: str
     first: int
     text: str
+    alone: Alone = None
+    same: bool = False
+    notes: dict = dataclasses.field(default_factory=dict)
+
+    @functools.cached_property
+    def name_at(self):
+        """The offset of the @ of its name: the first one outside strings."""
+        return blank(self.text).find("@")
 
     @functools.cached_property
     def brace(self):
@@ -61,14 +121,16 @@ class Function:
         return self.header + "{\n  unreachable\n}\n"
 
     def renamed(self, name, text=None):
-        """The function's text, or another text of it, with this name in its header."""
-        return DEFINE.sub(lambda _: f"@{name}(", self.text if text is None else text, count=1)
+        """The function's text, or another text with its header, with this name there."""
+        text = self.text if text is None else text
+        found = DEFINE.match(text, self.name_at) if self.name_at >= 0 else None
+        return text[:found.start()] + f"@{name}(" + text[found.end():] if found else text
 
     @functools.cached_property
     def parameters(self):
         """Each parameter's text, type first; [] where the header isn't read."""
         header = blank(self.header)
-        found = DEFINE.search(self.header)
+        found = DEFINE.match(self.header, self.name_at) if self.name_at >= 0 else None
         if not found:
             return []
         inside, depth = "", 1
@@ -117,91 +179,135 @@ def split(text):
     return parts
 
 
+# Cutting a text without LLVM.
+
+# The word define, but not as a label or a part of a name.
+DEFINES = re.compile(r"(?<![-\w$.%@!#^])define(?![-\w$.:])")
+ITEM_BEGINS = re.compile(r"\s*(?:$|define\b|declare\b|attributes\b|target\b|source_filename\b"
+                         r"|module\b|uselistorder|[@%!$^])")
+
+
 def functions_of(text):
-    """The functions with a body of a module's text, in order. One without an end, or without a
-    name, is among them, so that tv refuses it: no `define` is passed over."""
-    found, begun, depth = [], None, 0
-    lines = text.splitlines(keepends=True)
-    for number, line in enumerate(lines):
-        quiet = QUIET.sub("", line)
-        if quiet.lstrip().startswith("define ") or quiet.strip() == "define":
-            if begun is not None:
-                found.append(function_at(lines, begun, number))
-            begun, depth = number, 0
-        if begun is None:
-            continue
-        depth += quiet.count("{") - quiet.count("}")
-        if depth == 0 and quiet.rstrip().endswith("}"):
-            found.append(function_at(lines, begun, number + 1))
-            begun = None
-    if begun is not None:
-        found.append(function_at(lines, begun, len(lines)))
+    """The functions with a body of a module's text, in order."""
+    quiet, lines, found = blank(text), 1, []
+    counted = 0
+    for begin in (each.start() for each in DEFINES.finditer(quiet)):
+        end = end_of(quiet, begin)
+        lines += text.count("\n", counted, begin)
+        counted = begin
+        found.append(function_at(text, quiet, begin, end, lines))
     return found
 
 
-def function_at(lines, begun, end):
-    whole = "".join(lines[begun:end])
-    name = DEFINE.search(whole)
-    return Function(canonical(name.group(1)) if name else f"line.{begun + 1}", begun + 1, whole)
+def end_of(quiet, begin):
+    """The offset after the function that begins here: after the brace that closes a group and that
+    an item of the module, or nothing, follows; else that of the next function."""
+    name = quiet.find("@", begin)
+    following = DEFINES.search(quiet, begin + 1)
+    limit = following.start() if following else len(quiet)
+    depth = 0
+    for found in re.finditer("[{}]", quiet[:limit][begin:]):
+        depth += 1 if found.group() == "{" else -1
+        at = begin + found.end()
+        if depth == 0 and at > name >= 0 and ITEM_BEGINS.match(quiet, at):
+            return at + 1 if quiet[at:at + 1] == "\n" else at
+    return limit
 
 
-@dataclasses.dataclass(frozen=True)
-class Alone:
-    """One function as a module: its text, and the line of the whole module that each of its lines
-    is (from 1, in order)."""
-    text: str
-    lines: tuple
-
-    def line(self, number):
-        """The whole module's line for one of this text."""
-        if 1 <= number <= len(self.lines):
-            return self.lines[number - 1]
-        return self.lines[-1] + 1 if self.lines else number
+def function_at(text, quiet, begin, end, line):
+    """The function in a part of a text. One without a name is among the functions all the same, so
+    that no `define` is passed over."""
+    name = DEFINE.match(text, quiet.find("@", begin, end)) if "@" in quiet[begin:end] else None
+    return Function(canonical(name.group(1)) if name else f"line.{line}", line, text[begin:end])
 
 
 class Module:
-    """A module's text with its functions, and its other items by the names that they define. `raw`
-    is the module that this one was written out from by the plugin, or None."""
+    """A module: its text, and its functions by their names. `document` is the answer of tv-split
+    that it is from, None where the text is cut without LLVM; `given` is the text that the user
+    gave, where `text` is LLVM's print of it. `raw` is the module that this one was written out from
+    by the plugin, or None."""
 
-    def __init__(self, text, path="", raw=None):
+    def __init__(self, text, path="", raw=None, functions=None, document=None, given=None):
         self.text, self.path, self.raw = text, path, raw
+        self.document, self.given = document, text if given is None else given
         self.lines = text.splitlines()
         self.functions = {}
-        for function in functions_of(text):
+        for function in functions_of(text) if functions is None else functions:
             if function.name in self.functions:
                 raise Failure(NOT_A_MODULE, f"{path or 'module'}:{function.first}:1: name twice: "
                                             f"@{function.name}")
             self.functions[function.name] = function
-        self.items, self.layout = {}, []
-        for number, line in enumerate(self.lines, 1):
-            item = ITEM.match(line)
-            if item:
-                self.items.setdefault(next(filter(None, item.groups())), (number, line))
-            elif line.startswith("target datalayout"):
-                self.layout.append((number, line))
+        self.bodies = tuple(self.functions.values())
+
+    @functools.cached_property
+    def gaps(self):
+        """The parts of the text outside its functions, one more than there are functions."""
+        found, begun = [], 0
+        for function in self.bodies:
+            at = self.text.index(function.text, begun)
+            found.append(self.text[begun:at])
+            begun = at + len(function.text)
+        return [*found, self.text[begun:]]
 
     def alone(self, name, text=None):
-        """One function with the data layout and the items that it names, as a module."""
+        """One function, or another text in its place, as a module: with all that it reaches where
+        LLVM cut it out, else with all that is outside functions. Where LLVM can't cut it out, since
+        it names a block of another function, the function is there alone, which tv refuses."""
         function = self.functions[name]
-        text = function.text if text is None else text
-        wanted, queue = {}, [text]
-        while queue:
-            for mention in MENTION.findall(queue.pop()):
-                if mention in self.items and mention not in wanted:
-                    wanted[mention] = self.items[mention]
-                    queue.append(self.items[mention][1])
-        layout = [] if "layout" in self.noted(name, "tv-rules") else self.layout
-        above = layout + sorted(wanted.values(), key=lambda item: item[1])
-        body = range(function.first, function.first + len(text.splitlines()))
-        return Alone("".join(line + "\n" for _, line in above) + text,
-                     (*(number for number, _ in above), *body))
+        if function.alone:
+            found = function.alone
+        elif self.document:
+            found = Alone(function.text, name, 1, function.text.count("\n"), function.first)
+        else:
+            found = self.among_gaps(function)
+        return found if text is None else found.replaced(text)
+
+    def among_gaps(self, function):
+        """A function with all that is outside functions, on the lines that they have."""
+        text = ""
+        for gap, body in zip(self.gaps, self.bodies):
+            kept = body.first == function.first
+            text += gap + (function.text if kept else "\n" * body.text.count("\n"))
+        return Alone(text + self.gaps[-1], function.name, function.first,
+                     len(function.text.splitlines()), function.first)
 
     def noted(self, name, key):
         """The words of an attribute of a function that the plugin wrote, e.g. `tv-rules`."""
-        groups = re.findall(r"#\d+", blank(self.functions[name].header)) if self.raw else []
-        lines = [self.items[group][1] for group in groups if group in self.items]
-        found = re.search(rf'"{key}"="([^"]*)"', "".join(lines))
-        return found.group(1).split() if found else []
+        return self.functions[name].notes.get(key, "").split() if self.raw else []
+
+    def function_on(self, line):
+        """The name of the function that a line is of, or None."""
+        return next((each.name for each in self.bodies
+                     if each.first <= line < each.first + each.text.count("\n")), None)
+
+    def without(self, names):
+        """The text with empty lines for these functions."""
+        lines = self.text.split("\n")
+        for function in self.bodies:
+            if function.name in names:
+                begin, count = function.first - 1, function.text.count("\n")
+                lines[begin:begin + count] = [""] * count
+        return "\n".join(lines)
+
+    @functools.cached_property
+    def given_lines(self):
+        return self.given.splitlines()
+
+    def shown(self, number):
+        """A line's text, where the file that the user gave has another one there; else nothing."""
+        if self.given is self.text or not 1 <= number <= len(self.lines):
+            return ""
+        text = self.lines[number - 1]
+        return "" if self.given_lines[number - 1:number] == [text] else text.strip()
+
+    def given_line(self, name):
+        """The line of the user's file on which a function probably begins, else that here."""
+        first = self.functions[name].first
+        if self.given is self.text:
+            return first
+        begins = re.compile(rf"\s*define\b.*@\"?{re.escape(name.strip(chr(34)))}\"?\s*\(")
+        found = (at for at, line in enumerate(self.given_lines, 1) if begins.match(line))
+        return next(found, first)
 
     def rest(self, line, column):
         """The text of a line from a column (in bytes, from 1) on; empty at the end."""
@@ -217,9 +323,8 @@ class Module:
     @functools.cached_property
     def named_types(self):
         """The texts of the types that the module names, e.g. `%struct.s` to `{ i32, i8 }`."""
-        found = (re.match(rf"(%(?:{NAME}))\s*=\s*type\s+(.*)", line)
-                 for _, line in self.items.values())
-        return {each.group(1): bare(each.group(2)) for each in found if each}
+        found = filter(None, map(TYPE.match, self.lines))
+        return {each.group(1): bare(each.group(2)) for each in found}
 
 
 def names_of(source, target):
@@ -228,22 +333,136 @@ def names_of(source, target):
 
 
 def is_same(source, target, name):
-    """Whether a function's text is the same in both modules, with the items that it names and but
-    for comments."""
+    """Whether a function is the same in both modules with all that it reaches, as LLVM prints that;
+    without LLVM: whether its bytes are, and those of all that is outside functions."""
     source, target = source.raw or source, target.raw or target
-    if name not in source.functions or name not in target.functions:
+    one, other = source.functions.get(name), target.functions.get(name)
+    if one is None or other is None:
         return False
-    texts = [module.functions[name].text for module in (source, target)]
-    return are_same(*texts) and are_same(*(module.alone(name).text for module in (source, target)))
+    if one.alone and other.alone:
+        return one.alone.text == other.alone.text
+    if source.document or target.document:
+        return source.document is target.document and one.same and other.same
+    return source.text == target.text and one.text == other.text \
+        or one.text == other.text and source.gaps == target.gaps
 
 
-def are_same(one, other):
-    """Whether two texts are equal but for comments."""
-    if one == other:
-        return True
-    lines, others = one.splitlines(), other.splitlines()
-    return len(lines) == len(others) and all(
-        left == right or bare(left) == bare(right) for left, right in zip(lines, others))
+# Cutting modules by LLVM.
+
+# What a print numbers anew in each module.
+NUMBERED = re.compile(r"([#!%])\d+")
+SPLIT_SECONDS = 300
+
+
+@functools.lru_cache(maxsize=None)
+def split_program():
+    """The program tv-split: what TV_SPLIT says, else that of this tree, else `tv-split` on the PATH;
+    None where there is none, or TV_LLVM_NONE=1 asks to do without."""
+    built = os.path.join(os.path.dirname(tvlib.HERE), "llvm", "build", "tv-split")
+    if os.environ.get("TV_LLVM_NONE") == "1":
+        return None
+    if os.environ.get("TV_SPLIT") or any(map(shutil.which, (built, "tv-split"))):
+        return tvlib.program("TV_SPLIT", built, "tv-split")
+    return None
+
+
+def modules_by_llvm(texts, paths):
+    """The modules in one or two texts (bytes, bitcode too), as tv-split reads them; `paths` are the
+    names for messages."""
+    with tempfile.TemporaryDirectory(prefix="tv-") as folder:
+        files = [os.path.join(folder, name) for name in ("before", "after")[:len(texts)]]
+        for file, data in zip(files, texts):
+            with open(file, "wb") as out:
+                out.write(data)
+        done = tvlib.run([split_program(), *files], seconds=SPLIT_SECONDS)
+    if done.status != 0:
+        raise refusal_of(done, files, paths)
+    document = read_document(done.output, len(texts))
+    modules = [module_in(document, at, path, data)
+               for at, (path, data) in enumerate(zip(paths, texts))]
+    if len(modules) == 2:
+        check_same(*modules)
+    return modules
+
+
+def refusal_of(done, files, paths):
+    """Why tv-split gave no document."""
+    lines = done.errors.decode("utf-8", "replace").strip().splitlines()
+    said = lines[-1] if lines else ""
+    if done.status in (1, 2) and done.status <= len(files) and said.startswith("tv-split: "):
+        said = said[len("tv-split: "):]
+        for file, path in zip(files, paths):
+            said = path + said[len(file):] if said.startswith(file + ":") else said
+        return Failure(NOT_A_MODULE, said)
+    ended = "took too long" if done.status is None else f"ended with status {done.status}"
+    return Failure(FAULT, f"{' '.join(paths)}: tv-split {ended}{said and ': ' + said}")
+
+
+def read_document(output, number):
+    """The document that tv-split wrote, with its texts as Python has them elsewhere."""
+    try:
+        document = json.loads(output, object_hook=lambda found: {
+            key: decoded(value) if isinstance(value, str) else value
+            for key, value in found.items()})
+        whole = document["tv-split"] == 1 and document["end"] is True \
+            and len(document["modules"]) == number
+    except (ValueError, LookupError, TypeError):
+        whole = False
+    if not whole:
+        raise Failure(FAULT, "tv-split gave no whole document")
+    return document
+
+
+def decoded(text):
+    """A text whose characters are bytes."""
+    return text.encode("latin-1").decode("utf-8", "surrogateescape")
+
+
+def module_in(document, at, path, data):
+    """A module of a document, held against its own print."""
+    try:
+        found = document["modules"][at]
+        text = found["text"]
+        lines = text.splitlines(keepends=True)
+        functions = [function_in(each, lines) for each in found["functions"]]
+    except (LookupError, TypeError, ValueError, AttributeError):
+        raise Failure(FAULT, f"{path}: tv-split gave no whole document") from None
+    given = text if is_bitcode(data) else data.decode("utf-8", "surrogateescape")
+    return Module(text, path, functions=functions, document=document, given=given)
+
+
+def function_in(found, lines):
+    """A function of a document. Its lines have to be those of a function."""
+    text = "".join(lines[found["first"] - 1:found["first"] - 1 + found["lines"]])
+    alone = found.get("alone")
+    if alone:
+        alone = Alone(alone["text"], canonical(alone["name"]), alone["first"], alone["lines"],
+                      found["first"])
+        text = alone.parts()[1]
+    if not text.startswith("define ") or not text.endswith("}\n") or found["lines"] < 1 \
+            or alone and alone.count != found["lines"]:
+        raise ValueError("not a function")
+    notes = {note["key"]: note["value"] for note in found["notes"]}
+    return Function(canonical(found["name"]), found["first"], text, alone, found["same"] is True,
+                    notes)
+
+
+def check_same(source, target):
+    """Whether what tv-split calls the same is so in the prints, but for what LLVM numbers anew."""
+    for name, one in source.functions.items():
+        other = target.functions.get(name)
+        if one.same != (other is not None and other.same) or one.same and \
+                one.text != other.text and unnumbered(one.text) != unnumbered(other.text):
+            raise Failure(FAULT, f"{source.path}: tv-split calls @{name} the same, and the modules "
+                                 "have different texts of it")
+        if not one.same and one.alone and other is not None and other.alone \
+                and one.alone.text == other.alone.text:
+            raise Failure(FAULT, f"{source.path}: tv-split calls @{name} different, and gives one "
+                                 "text for both")
+
+
+def unnumbered(text):
+    return "\n".join(line.rstrip() for line in NUMBERED.sub(r"\1", bare(text)).splitlines())
 
 
 TOKEN = re.compile(r'(?P<local>%[-"\w.$]+)|(?P<global>@[-"\w.$]+)|(?P<number>-?\d[\w.+]*)'

@@ -100,7 +100,7 @@ def plain_lines(row, function, colours=False):
     """A row as the text report has it, without a trace."""
     kind = painted(row.word(), COLOURS.get(row.kind, FAINT), colours)
     rest = row.text()[len(f"@{row.name} {row.word()}"):]
-    return [f"@{row.name} {kind}{rest}", *point_lines(row.lines, function)]
+    return [f"@{row.name} {kind}{rest}", *row.shown_lines(), *point_lines(row.lines, function)]
 
 
 def refusals(rows):
@@ -127,7 +127,14 @@ def with_faults(pairs, results):
     for pair, row in results:
         rows[id(pair)].append((pair, row))
     return [each for pair in pairs for each in [
-        *rows[id(pair)], *([(pair, tvrun.Row("", "failed", pair.fault))] if pair.fault else [])]]
+        *rows[id(pair)], *([(pair, fault_row(pair))] if pair.fault else [])]]
+
+
+def fault_row(pair):
+    """A row for what is wrong with a whole pair: a file that stands on one side alone isn't judged,
+    all else has failed."""
+    kind = "failed" if pair.status != tvlib.NOTHING else "missing"
+    return tvrun.Row("", kind, pair.fault)
 
 
 def function_of(pair, row):
@@ -218,10 +225,10 @@ LEVELS = {"incorrect": "error", "unknown": "warning", "vacuous": "warning", "bou
 
 def result_of(pair, row):
     """A row as a SARIF result, at the function's line, or at the position of an access or a
-    refusal where that is in the same file."""
+    refusal where the same line is in the file."""
     path, line = pair.place(row.name)
     region = {"startLine": max(1, line)}
-    position = row.position()
+    position = None if row.shown else row.position()
     if position and position[0] == "source" and pair.original is pair.source:
         region = {"startLine": position[1], "startColumn": position[2]}
     if position and position[0] == "target" and os.path.isfile(pair.other):

@@ -18,6 +18,7 @@ STATUSES = {"correct": 0, "incorrect": 1, "unknown": 2, "refused": 3, "signature
             "extra": 3}
 LIMITS = {"turns": 4, "blocks": 2, "bytes": 8, "rounds": 64, "conflicts": 0, "weight": 100000}
 TRACED = "    | "
+SHOWN = "  | "
 NAME = r'"[^"]*"|[-\w.$]+'
 COUNT = re.compile(r"([a-z]+) (\d+)")
 
@@ -44,12 +45,14 @@ class BadReport(Exception):
 
 @dataclasses.dataclass
 class Line:
-    """A row as it is written: name, kind, what follows, the lines below it and those of a trace."""
+    """A row as it is written: name, kind, what follows, the lines below it, those of a trace, and the
+    module's line that it is about."""
     name: str
     kind: str
     detail: str = ""
     lines: list = dataclasses.field(default_factory=list)
     trace: list = dataclasses.field(default_factory=list)
+    shown: str = ""
 
 
 @dataclasses.dataclass
@@ -247,11 +250,14 @@ def check_row_in(group):
     name, kind, detail = found.groups("")
     if MARKED.fullmatch(detail):
         kind = MARKED_KINDS.get(kind, kind)
-    below = [line for line in group[1:] if not line.startswith(TRACED)]
+    below = [line for line in group[1:] if not line.startswith((TRACED, SHOWN))]
     trace = [line[len(TRACED):] for line in group[1:] if line.startswith(TRACED)]
+    shown = [line[len(SHOWN):] for line in group[1:] if line.startswith(SHOWN)]
+    if len(shown) > (kind in ("refused", "bounded", "vacuous")):
+        raise BadReport(f"the lines below @{name} {kind} are none of such a row")
     if bool(below) != (kind in ("incorrect", "alarm")):
         raise BadReport(f"the lines below @{name} {kind} are none of such a row")
-    return Line(name, kind, detail, below, trace)
+    return Line(name, kind, detail, below, trace, "".join(shown))
 
 
 def rows_in(text):

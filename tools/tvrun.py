@@ -48,7 +48,8 @@ class Row:
     """A row of a report: name, kind, what follows the kind, and the lines of a counterexample.
     Of a row that these scripts made also the bounds that aren't tv's own, the seconds that its
     processes took, of a refusal what is at its position and the class of advice for it, and of a
-    counterexample the lines of both runs, step by step, where they were asked for. Where both
+    counterexample the lines of both runs, step by step, where they were asked for; `shown` is the
+    line that it is about, where the user has no file with that line. Where both
     functions were written out by the plugin, the rules by which they were, and the promises of
     which tv wasn't told and that make the row doubtful."""
     name: str
@@ -62,6 +63,7 @@ class Row:
     trace: list = dataclasses.field(default_factory=list)
     rules: list = dataclasses.field(default_factory=list)
     doubts: list = dataclasses.field(default_factory=list)
+    shown: str = ""
 
     def text(self):
         """The row as a line: name, kind, detail, the bounds in brackets, rules and doubts."""
@@ -87,7 +89,11 @@ class Row:
 
     def whole(self):
         """The row with its lines."""
-        return "\n".join([self.text(), *self.lines]) + "\n"
+        return "\n".join([self.text(), *self.shown_lines(), *self.lines]) + "\n"
+
+    def shown_lines(self):
+        """The line that the row is about, as a line of a report."""
+        return [tvreport.SHOWN + self.shown] if self.shown else []
 
     def position(self):
         """Side, line and column of a refusal or of an access, or None."""
@@ -121,7 +127,7 @@ def row_of(line):
     if line.kind == "refused" and refusal:
         detail, what = refusal.groups("")
     return Row(line.name, line.kind, detail, line.lines, bounds=bounds, what=what, trace=line.trace,
-               rules=rules, doubts=doubts)
+               rules=rules, doubts=doubts, shown=line.shown)
 
 
 def how_of(detail):
@@ -260,12 +266,13 @@ def judge(source, target, name, how):
     begun = time.monotonic()
     bounds = tvbounds.fitted(source, target, name, how.given())
     sides = {"source": source.alone(name), "target": target.alone(name)}
-    found = how.rows(sides["source"].text, sides["target"].text, bounds, [name])
+    found = how.rows(sides["source"].text, sides["target"].text, bounds, [sides["source"].name])
     row = dataclasses.replace(found[0], name=name) if len(found) == 1 \
         else Row(name, "failed", f"{len(found)} rows")
     if row.kind == "unknown":
         row, bounds = asked_again(row, sides, how, bounds, begun)
-    row = placed(row, sides, {"source": source, "target": target})
+    modules = {"source": source, "target": target}
+    row = placed(row, sides, modules)
     if row.kind == "correct":
         row = reached(row, source, name, how, bounds)
     if row.kind == "correct":
@@ -276,7 +283,8 @@ def judge(source, target, name, how):
     doubts = doubts_of(source, target, name, row.kind)
     rules = rules_of(source, target, name) or (["compared"] if doubts else [])
     row = dataclasses.replace(row, seconds=round(time.monotonic() - begun, 3),
-                              bounds=shown_bounds(bounds, row.kind), rules=rules, doubts=doubts)
+                              bounds=shown_bounds(bounds, row.kind),
+                              shown=shown_line(row, modules), rules=rules, doubts=doubts)
     return row.as_doubtful()
 
 
@@ -364,7 +372,7 @@ def asked_again(row, sides, how, bounds, begun):
             break
         more[latest.detail] = larger[0]
         found = dataclasses.replace(how, seconds=left).rows(
-            sides["source"].text, sides["target"].text, more, [row.name])
+            sides["source"].text, sides["target"].text, more, [sides["source"].name])
         latest = found[0] if len(found) == 1 else row
     if latest.kind in ("correct", "incorrect"):
         return dataclasses.replace(latest, name=row.name), more
@@ -381,6 +389,12 @@ def placed(row, sides, modules):
     detail = POSITION.sub(f"{line}:{column}", row.detail)
     what, advice = tvwhy.explained(modules[side], row.reason(), line, column)
     return dataclasses.replace(row, detail=detail, what=what, advice=advice)
+
+
+def shown_line(row, modules):
+    """The line at a row's position, where the user has no file with that line."""
+    position = row.position()
+    return modules[position[0]].shown(position[1]) if position else ""
 
 
 def reached(row, source, name, how, bounds):
