@@ -6,6 +6,7 @@ import re
 
 import tvbounds
 import tvir
+import tvlib
 import tvrun
 import tvwhy
 
