@@ -5,7 +5,7 @@
     python3 tools/edits.py --write LOG ..   puts it into docs/EDITS.md; an edit that no log has keeps its line there
     python3 tools/edits.py --check [LOG ..] says where docs/EDITS.md differs from the tree's edits and from these logs
 
-A log is what `rt ci` or `rt must-fail` writes; `-` is standard input. Of each edit it has the first goal that is
+A log is what `rt ci` or `rt must-fail` writes of the tree as it is; `-` is standard input. Of each edit it has the first goal that is
 refused. An edit that is not refused, not tried, or refused only because a name is gone is a fault and gets no line,
 and so is one that changes a contract or a definition: it shows nothing.
 
