@@ -5,9 +5,9 @@
     python3 tools/edits.py --write LOG ..   puts it into docs/EDITS.md; an edit that no log has keeps its line there
     python3 tools/edits.py --check [LOG ..] says where docs/EDITS.md differs from the tree's edits and from these logs
 
-A log is what `rt ci` or `rt must-fail` writes of the tree as it is; `-` is standard input. Of each edit it has the first goal that is
-refused. An edit that is not refused, not tried, or refused only because a name is gone is a fault and gets no line,
-and so is one that changes a contract or a definition: it shows nothing.
+A log is what `rt ci` or `rt must-fail` writes of the tree as it is; `-` is standard input. Of each edit it has the
+first goal that is refused. An edit that is not refused, not tried, or refused only because a name is gone is a fault
+and gets no line, and so is one that is not in the tree, or that changes a contract or a definition: it shows nothing.
 
 Status: 0 no fault and no difference, 1 there are some, each on a line of standard error, 4 the command line, 5 a
 file can't be read, 7 docs/EDITS.md can't be written.
@@ -116,14 +116,13 @@ def function_at(crate, file, line):
 
 
 def function_proved(crate, path):
-    """The function that a file of proofs belongs to, by its path below proofs/."""
-    parts = path.split("/")[:-1]
-    for depth in (2, 1, 0):
-        file = ROOT / "crates" / crate / "src" / ("/".join(parts[:-depth or None]) + ".rt" if depth < len(parts) and depth else "lib.rt")
-        if parts and file.exists():
-            for _, name, owner, public in functions(file):
-                if name == parts[-1] and (owner is None or owner in parts):
-                    return said(crate, name, owner, public)
+    """The function that a file of proofs belongs to, by its path below proofs/: module, type, function, file."""
+    *above, name = path.split("/")[:-1] or [""]
+    for module in (above, above[:-1]):
+        file = (ROOT / "crates" / crate / "src").joinpath(*module or ["lib"]).with_suffix(".rt")
+        for _, found, owner, public in functions(file) if file.exists() else ():
+            if found == name and (owner is None or owner in above):
+                return said(crate, name, owner, public)
     return f"`proofs/{path}.antt`"
 
 
@@ -164,11 +163,15 @@ def row_of(crate, text):
 def read_log(lines):
     """What a log says: rows by edit, and faults."""
     rows, faults = {}, []
+    there = set(edits())
     for line in lines:
         tried = TRIED.search(line)
         if not tried:
             continue
         edit, text = Edit(tried.group(1), tried.group(2)), tried.group(3)
+        if edit not in there:
+            faults.append(f"{edit.crate}/{edit.name}: a log has it, and there is no such edit")
+            continue
         refused = REFUSED.match(text)
         row = row_of(edit.crate, refused.group(2)) if refused and not refused.group(1) else None
         if row:
@@ -238,7 +241,8 @@ def differences(rows, written, there):
 def main(words):
     how = words[0] if words and words[0].startswith("--") else ""
     logs = words[1:] if how else words
-    if how not in ("", "--write", "--check") or (not logs and how != "--check") or any(w.startswith("--") for w in logs):
+    is_known = how in ("", "--write", "--check") and not any(word.startswith("--") for word in logs)
+    if not is_known or (not logs and how != "--check"):
         raise Fault(4, __doc__)
     rows, faults = read_logs(logs)
     there = edits()

@@ -22,7 +22,8 @@ on several workers, and calls of the system, fail in a run for each N, or in at 
   - interrupted ones (EINTR): as where they fail, since `tv` does not try them again.
 
 A line for each job says how many requests it has, how many copies or runs there were, and how many ended with
-each status. The status is 1 where one ended otherwise. Where there is no `cc` or no `tv`, a line counts what is skipped.
+each status. The status is 1 where one ended otherwise. Where there is no `cc` or no `tv`, a line counts what is
+skipped.
 """
 import argparse
 import collections

@@ -111,6 +111,11 @@ def faults_get_no_line(tree):
         want((status, len(out.splitlines()), err.count("low/skips_one")), (1, 2, 1))
 
 
+def an_edit_of_another_tree(tree):
+    status, out, err = tree.run("-", log=CLAUSE.replace("skips_one", "skips_two"))
+    want((status, len(out.splitlines()), err.count("low/skips_two")), (1, 2, 1))
+
+
 def an_empty_log(tree):
     want(tree.run("-", log="rt: low proved\n")[0], 1)
 
@@ -154,8 +159,8 @@ def the_page_of_the_repository(_tree):
     want((done.returncode, done.stderr), (0, ""))
 
 
-CASES = [a_clause, a_clause_without_name, a_call, a_loop, a_written_proof, a_cut_name, faults_get_no_line, an_empty_log,
-         written_and_checked, an_edit_that_is_new_or_gone, an_edit_of_a_contract, wrong_words, the_page_of_the_repository]
+CASES = [a_clause, a_clause_without_name, a_call, a_loop, a_written_proof, a_cut_name, faults_get_no_line,
+         an_edit_of_another_tree, an_empty_log, written_and_checked, an_edit_that_is_new_or_gone, an_edit_of_a_contract, wrong_words, the_page_of_the_repository]
 
 
 def main():
