@@ -1,15 +1,17 @@
 #!/usr/bin/env python3
 """Runs of the program in which one request fails: for memory, or of a read, a write, an open or a rename.
 
-    tools/failing.py [PATH OF tv] [--at-most N]     (default: crates/tv/out/tv, 1,000)
+    tools/failing.py [PATH OF tv] [--at-most N] [--copies N]
+
+The default is `TV`, else crates/tv/out/tv, 1,000, and all copies.
 
 A small library that is loaded before the C library (`LD_PRELOAD`; it is built with `cc`) counts the
 requests of a run and lets the Nth one fail. The jobs are an incorrect pair, a pair over memory, six pairs on
 1, 2 and 64 workers, a proof file that is written, and one that is checked.
 
 A job on one worker is run once, and each of its requests for memory fails in a copy of the process (`fork`)
-that is made at the request and goes on from there. Requests on several workers, and calls of the system, fail
-in a run for each N, or in at most N runs, evenly spread.
+that is made at the request and goes on from there; with `--copies N` in at most N of them, evenly spread. Requests
+on several workers, and calls of the system, fail in a run for each N, or in at most N runs, evenly spread.
 
   - memory: each run has to end with status 8 and write nothing, or with the answer that the job has
     where nothing fails. A proof file may have been written by then.
@@ -20,7 +22,8 @@ in a run for each N, or in at most N runs, evenly spread.
   - interrupted ones (EINTR): as where they fail, since `tv` does not try them again.
 
 A line for each job says how many requests it has, how many copies or runs there were, and how many ended with
-each status. The status is 1 where one ended otherwise. Without `cc` it does nothing.
+each status. The status is 1 where one ended otherwise. Where there is no `cc` or no `tv`, a line counts what is
+skipped.
 """
 import argparse
 import collections
@@ -31,6 +34,7 @@ import subprocess
 import sys
 import tempfile
 
+BUILT = os.path.join(os.path.dirname(os.path.dirname(os.path.realpath(__file__))), "crates", "tv", "out", "tv")
 LIBRARY = r"""
 #define _GNU_SOURCE
 #include <dlfcn.h>
@@ -47,7 +51,7 @@ LIBRARY = r"""
 #include <unistd.h>
 
 static atomic_long memory, calls, reads;
-static long memory_fails, call_fails, most, interrupted;
+static long memory_fails, call_fails, most, interrupted, every = 1;
 static const char *counts;
 static int told = -1, taken;
 
@@ -57,6 +61,7 @@ __attribute__((constructor)) static void begin(void) {
     if ((text = getenv("CALL_FAILS"))) call_fails = atol(text);
     if ((text = getenv("MOST"))) most = atol(text);
     if ((text = getenv("INTERRUPTED"))) interrupted = atol(text);
+    if ((text = getenv("EVERY"))) every = atol(text);
     counts = getenv("COUNTS");
     if ((text = getenv("EACH"))) {
         told = open(text, O_WRONLY | O_CREAT | O_TRUNC, 0600);
@@ -99,7 +104,7 @@ static int fails_in_a_copy(long n) {
 
 static int no_memory(void) {
     long n = ++memory;
-    return told >= 0 ? fails_in_a_copy(n) : n == memory_fails;
+    return told >= 0 ? n % every == 0 && fails_in_a_copy(n) : n == memory_fails;
 }
 static int fails(void) { return ++calls == call_fails; }
 
@@ -208,16 +213,17 @@ class Runner:
             done = subprocess.run([self.tv, *words], cwd=here, env=variables, capture_output=True, timeout=3600)
             return done.returncode, done.stdout
 
-    def copies(self, words):
-        """For each request for memory, in order, what the copy of the process in which it failed ended with."""
+    def copies(self, words, every):
+        """For each request for memory, or one in so many, its number and what the copy of the process in which it
+        failed ended with."""
         told = os.path.join(self.folder, "told")
-        self.run(words, EACH=told)
+        self.run(words, EACH=told, EVERY=every)
         with open(told, "rb") as file:
             left = file.read()
         answers = []
         while left:
-            _, status, size, left = left.split(b" ", 3)
-            answers.append((int(status), left[:int(size)]))
+            number, status, size, left = left.split(b" ", 3)
+            answers.append((int(number), (int(status), left[:int(size)])))
             left = left[int(size) + 1:]
         return answers
 
@@ -250,15 +256,18 @@ def statuses(answers):
     return " ".join(f"{status}: {n}" for status, n in sorted(counts.items()))
 
 
-def looked_at(runner, pool, name, words, most):
+def looked_at(runner, pool, name, words, most, copies):
     """A job with each request failing in turn: the number of runs that ended otherwise."""
     own, memory, calls = runner.counted(words)
     wrong = 0
     has_threads = words[0] == "check" and words[-1] != "1"
     for kind, setting, count in (("memory", "MEMORY_FAILS", memory), ("calls", "CALL_FAILS", calls)):
         if kind == "memory" and not has_threads:
-            answers = runner.copies(words)
-            numbers = range(1, len(answers) + 1)
+            numbered = runner.copies(words, -(-count // copies) if copies else 1)
+            numbers, answers = [n for n, _ in numbered], [answer for _, answer in numbered]
+            if not numbers:
+                wrong += 1
+                print(f"{name}: no request for memory failed", flush=True)
         else:
             # The threads of a run may ask in another order, so a few further numbers are tried.
             numbers = range(1, count + 4, -(-(count + 3) // most))
@@ -281,14 +290,18 @@ def looked_at(runner, pool, name, words, most):
 
 def main():
     parser = argparse.ArgumentParser(add_help=True)
-    parser.add_argument("tv", nargs="?", default="crates/tv/out/tv")
+    parser.add_argument("tv", nargs="?", default=os.environ.get("TV") or BUILT)
     parser.add_argument("--at-most", type=int, default=1_000)
+    parser.add_argument("--copies", type=int, default=0)
     given = parser.parse_args()
-    if not shutil.which("cc"):
+    missing = "cc is not installed" if not shutil.which("cc") else f"{given.tv} is not built"
+    if not shutil.which("cc") or not os.path.exists(given.tv):
+        print(f"skipped: {len(JOBS)} jobs in which a request fails: {missing}")
         return 0
     with tempfile.TemporaryDirectory() as folder, concurrent.futures.ThreadPoolExecutor(2) as pool:
         runner = Runner(given.tv, folder)
-        wrong = sum(looked_at(runner, pool, name, words, given.at_most) for name, words in JOBS.items())
+        wrong = sum(looked_at(runner, pool, name, words, given.at_most, given.copies)
+                    for name, words in JOBS.items())
     print(f"wrong: {wrong}")
     return 1 if wrong else 0
 

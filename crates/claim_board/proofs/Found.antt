@@ -133,6 +133,10 @@ IsLeastFound-run n total c w seats (joins m l before seat other u v run at apart
       some_found = ⊎_elim inl (λ some. inr (omega (arith, times-append w u.found v.found))) known.some_found;
     }
 
+-- the second word is at most each number that a seat has found
+pub least_at : (n total c w : ℕ) (seats : List Hand) (seat : ℕ) (v : Hand) → BoardRun n total c w seats → get_elem? seats seat ≡ some v → All (λ k. w ≤ k) v.found
+least_at n total c w seats seat v run at = (fits_at n w seats seat v (IsLeastFound-run n total c w seats run).each at).found
+
 -- ---- a seat that holds all that was drawn
 
 times_none : (x : ℕ) (drawn found : List ℕ) → length drawn ≡ 0 → All (Contains drawn) found → times x found ≡ 0

@@ -9,8 +9,9 @@ use Rattle.atomic_table.specs.Table.{State, Me, step, keeps, Allows, Splits, Joi
 use Rattle.claim_board.specs.declared.board.Hand.{Hand}
 use Rattle.claim_board.specs.declared.board.Limits.{Limits}
 use Rattle.claim_board.specs.Board.{hand, with_found, with_passed, BoardRun, claims, finds, looks, splits, joins}
-use Rattle.claim_board.specs.Drawing.{IsRunning, claimed, reported}
+use Rattle.claim_board.specs.Drawing.{IsRunning, claimed, looked, reported}
 use Rattle.atomic_table.proofs.Lists.{set_else}
+use Rattle.claim_board.proofs.Found.{least_at}
 use Rattle.claim_board.proofs.Runs.{at_place, drawn_below, count_within}
 
 -- the words of a step are those of a run
@@ -69,7 +70,7 @@ find_allowed limits slots id k me below drawn once s holds size at range =
     )
 
 pub look_allowed : (limits : Limits) (slots id k : ℕ) (me : Me (Unit {0}) Hand) → k < limits.items → Contains me.0.drawn k
-    → Allows (IsRunning limits) slots id me 1 (λ n. n) (λ word after. after ≡ (with_passed (nat_lt word k) k me.0, me.1))
+    → Allows (IsRunning limits) slots id me 1 (λ n. n) (looked k (step slots 1 0 0 mathlib.Core.Option.none) me)
 look_allowed limits slots id k me below drawn s holds size at range =
     let c = get_or s.words 0 0 in
     let w = get_or s.words 1 0 in
@@ -88,7 +89,7 @@ look_allowed limits slots id k me below drawn s holds size at range =
             (get_or-set_same s.words 1 w 0 inside)
             (looks c w s.views id v k holds.2 at below drawn),
       ),
-      refl,
+      (refl, least_at limits.items limits.total c w s.views id v holds.2 at),
     )
 
 pub split_allowed : (limits : Limits) (id part : ℕ) (v : Hand) → part ≤ v.allowance

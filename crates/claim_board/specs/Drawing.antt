@@ -1,9 +1,9 @@
 -- The rule that the table keeps, and what each step reports to its seat.
-use Rattle.std.specs.Prelude.{◌≡◌, ℕ, ◌-◌, ◌^◌, ◌<◌, [], ◌∷◌, ◌++◌, length, slice_index, All}
+use Rattle.std.specs.Prelude.{◌≡◌, ℕ, ◌-◌, ◌^◌, ◌<◌, ◌≤◌, [], ◌∷◌, ◌++◌, length, slice_index, nat_lt, All}
 use Rattle.atomic_table.specs.Table.{State, Me, Step}
 use Rattle.claim_board.specs.declared.board.Hand.{Hand}
 use Rattle.claim_board.specs.declared.board.Limits.{Limits}
-use Rattle.claim_board.specs.Board.{BoardRun, hand, with_found}
+use Rattle.claim_board.specs.Board.{BoardRun, hand, with_found, with_passed}
 
 -- word 0 is the count of a run, word 1 its least number found, and the views are its seats
 abbrev pub IsRunning : Limits → State (Unit {0}) Hand → Type 0
@@ -17,3 +17,8 @@ claimed step before n after =
 -- the operand is appended to what the seat has found
 abbrev pub reported : Step (Unit {0}) → Me (Unit {0}) Hand → ℕ → Me (Unit {0}) Hand → Type 0
 reported step before word after = after ≡ (with_found step.first before.0, before.1)
+
+-- a look for k found the word: it is at most each number that the seat has found, and where it is below k, the seat passes k over
+abbrev pub looked : ℕ → Step (Unit {0}) → Me (Unit {0}) Hand → ℕ → Me (Unit {0}) Hand → Type 0
+looked k step before word after =
+    (after ≡ (with_passed (nat_lt word k) k before.0, before.1)) × All (λ x. word ≤ x) before.0.found

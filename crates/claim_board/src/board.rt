@@ -1,6 +1,6 @@
 ghost use Rattle.std.specs.Prelude.{◌≡◌, ℕ, ◌+◌, ◌-◌, ◌*◌, ◌^◌, ◌<◌, ◌≤◌, [], ◌∷◌, ◌++◌, length, nat_lt, All, Any, Contains, IfOk};
 ghost use Rattle.claim_board.specs.Board.{hand, with_found, with_passed, times, once_below, HasRun};
-ghost use Rattle.claim_board.specs.Drawing.{IsRunning, claimed, reported};
+ghost use Rattle.claim_board.specs.Drawing.{IsRunning, claimed, looked, reported};
 
 use atomic_table::{Join, Play, Split, Table, TableRule};
 use std::alloc::Global;
@@ -58,7 +58,7 @@ impl Looked for Brand {
 struct Looking<N: Looked>(PhantomData<N>);
 
 impl<N: Looked> Play<(), Hand> for Looking<N> {
-    ghost then = { λ _ before word after. after ≡ (with_passed (nat_lt word N.number) N.number before.0, before.1) };
+    ghost then = { looked N.number };
 }
 
 // The part of an allowance that a split gives away.
@@ -140,11 +140,13 @@ impl Board {
     }
 
     /// Looks up the least number found so far, for a number of the seat: where it is below the number,
-    /// the seat passes the number over. It allocates nothing and never waits.
+    /// the seat passes the number over. It is at most each number that the seat has found. It allocates
+    /// nothing and never waits.
     pub fn look(&self, seat: &mut Seat, number: u64) -> u64
         requires seat { IsSeatOf self.now seat.old }
         requires item { number < items_of self.now }
         requires drawn { Contains (hand_of seat.old).drawn number }
+        ensures least { All (λ k. result ≤ k) (hand_of seat.old).found }
         ensures passed { hand_of seat.new ≡ with_passed (nat_lt result number) number (hand_of seat.old) }
         ensures seat { IsSeatOf self.now seat.new }
     {
@@ -156,6 +158,7 @@ impl Board {
         requires seat { IsSeatOf self.now seat.old }
         requires item { number < items_of self.now }
         requires drawn { Contains (hand_of seat.old).drawn number }
+        ensures least { All (λ k. result ≤ k) (hand_of seat.old).found }
         ensures passed { hand_of seat.new ≡ with_passed (nat_lt result number) number (hand_of seat.old) }
         ensures seat { IsSeatOf self.now seat.new }
     {

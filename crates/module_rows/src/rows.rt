@@ -57,8 +57,8 @@ pub fn all_rows<G: Gate, R: Threads + Sync>(
 }
 
 /// The rows up to and with the first incorrect one, or all where none is incorrect. The pairs are judged
-/// by `workers` workers, which begin no pair after one that is known to be incorrect; the answers are
-/// those of the pairs whose rows there are.
+/// by `workers` workers, each of which begins no pair after one that it knows to be incorrect; the answers
+/// are those of the pairs whose rows there are.
 pub fn first_rows<G: Gate, R: Threads + Sync>(
     rt: &R,
     alloc: Global,

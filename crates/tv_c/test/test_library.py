@@ -21,6 +21,7 @@ FLAGS = ["-std=c99", "-O1", "-g", "-Wall", "-Wextra", "-Werror", "-pthread"]
 VALGRIND = ["valgrind", "-q", "--leak-check=full", "--show-leak-kinds=all", "--error-exitcode=99"]
 WRAPPED = ["-Wl,--wrap=malloc,--wrap=realloc"]
 SECONDS = 600
+TESTS = 3
 
 
 def run(words, folder):
@@ -81,7 +82,7 @@ def wrong_with(source, more, before, folder):
 def main():
     why = missing()
     if why:
-        print(f"skipped: the C library: {why}")
+        print(f"skipped: {TESTS} tests of the C library: {why}")
         return 0
     failed, count = 0, 0
     with tempfile.TemporaryDirectory(prefix="tv-library-") as folder:

@@ -53,8 +53,8 @@ use tv_io::{PutFault, Shelf, Sink, write_line, write_whole};
 /// first byte is written, and the proof file is written before that. A line of a fault allocates
 /// nothing. Each pair passes the gate before it is judged.
 ///
-/// With `--first` the report ends at its first incorrect row, and its first line says so. No pair is begun
-/// after one that is known to be incorrect.
+/// With `--first` the report ends at its first incorrect row, and its first line says so. No worker begins
+/// a pair after one that it knows to be incorrect; one begun before it was known has no row.
 ///
 /// With `--proof` the named file holds the bounds and the budget, and a part for each correct and each
 /// incorrect row, in order, with the certificate of the row's answer. It may be one of the two files that
@@ -123,7 +123,8 @@ pub fn run<R: AllocGlobal + Threads + Sync, S: Shelf, K: Sink, G: Gate>(
     // Two files that are modules are judged, a proof file is checked, and a pair is made and judged,
     // unless a read or a write fails, or memory runs out.
     ensures complete { Completes (S.state shelf.old).files (job_in arguments.now) result }
-    // No failure of a read or a write is counted but the one that the status reports.
+    // No failure of a read or a write is counted but the one that the status reports; after 4, 5, 6 and 9
+    // the write of the line may have failed too.
     ensures quiet { CountsNoOther result
         (S.state shelf.old) (S.state shelf.new) (K.state out.old) (K.state out.new) }
     // No file changes but the one that `--proof` names, and none where there is no report.
