@@ -184,8 +184,8 @@ def check_first_and_slow(bench):
         bench.write(f"{name}_after.ll", bench.passes("double,wrong", f"{name}.ll"))
     log = os.path.join(bench.folder, "log")
     done = bench.run("tv-check", "last.ll", "last_after.ll", "--first", "-j", "1", FAKE_TV_LOG=log)
-    equal((done.stdout, bench.file("log").count("\n")), (FIRST, 3),
-          "report and runs of tv: two pairs, and how far the correct one reaches")
+    equal((done.stdout, bench.file("log").count("\n")), (FIRST, 4),
+          "report and runs of tv: what it finds, two pairs, and how far the correct one reaches")
     done = bench.run("tv-check", "last.ll", "last_after.ll", "--first", "-j", "6", "--seconds", "100")
     equal(done.stdout, FIRST.replace("seconds 10", "seconds 100"), "a slow function after it")
     done = bench.run("tv-check", "first.ll", "first_after.ll", "--first", "-j", "6", "--seconds", "2")
@@ -732,8 +732,8 @@ def opt_same(bench):
 def opt_asks_once(bench):
     log = os.path.join(bench.folder, "log")
     bench.run("opt-tv", "-S", "-passes=double,wrong", ARITH, FAKE_TV_LOG=log)
-    equal(bench.file("log").count("\n"), 8,
-          "runs of tv: a changed function each, one more asked again, and how far two correct ones reach")
+    equal(bench.file("log").count("\n"), 9,
+          "runs of tv: what it finds, a changed function each, one more asked again, and how far two correct ones reach")
 
 
 def opt_summary(bench):
@@ -800,7 +800,8 @@ def tree_resumes(bench):
     log = os.path.join(bench.folder, "log")
     tree_run(bench, "--out", "one", FAKE_TV_LOG=log)
     first = bench.file("log").count("\n")
-    equal(first, 9, "runs of tv: six pairs, one asked again, and how far two correct ones reach")
+    equal(first, 13, "runs of tv: what it finds in four pairs of modules, six pairs, one asked again, "
+                     "and how far two correct ones reach")
     done = tree_run(bench, "--out", "one", FAKE_TV_LOG=log)
     equal((done.returncode, bench.file("log").count("\n")), (1, first), "status and pairs")
 
@@ -867,7 +868,7 @@ def vacuous_rows(bench):
               "correct 2 vacuous 1 bounded 0 unknown 1 incorrect 1 refused 1\n"),
           "status and rows")
     done = bench.run("tv-vacuous", NAMES, NAMES)
-    equal((done.returncode, done.stdout), (0, "correct 0 vacuous 0 bounded 0 unknown 0 same 3\n"),
+    equal((done.returncode, done.stdout), (0, "correct 0 vacuous 0 bounded 0 unknown 0 same 2\n"),
           "none")
     equal(bench.run("tv-vacuous", NAMES, "nowhere.ll").returncode, 5, "status without a file")
 

@@ -11,7 +11,7 @@ _tv_check() {
         --opt|--before|--function|-f|--jobs|-j|--seconds|--turns|--blocks|--bytes|--rounds|--conflicts|--weight) compopt +o default; return ;;
         --keep) compopt -o filenames; mapfile -t COMPREPLY < <(compgen -d -- "$word"); return ;;
     esac
-    words="-h --help --opt --before --lower --function -f --jobs -j --seconds --turns --blocks --bytes --rounds --conflicts --weight --json --junit --sarif --html --first --no-trace --keep --version"
+    words="-h --help --opt --before --lower --function -f --jobs -j --seconds --turns --blocks --bytes --rounds --conflicts --weight --json --junit --sarif --html --first --no-trace --keep --allow-marks --version"
     case $word in
         -*) mapfile -t COMPREPLY < <(compgen -W "$words" -- "$word") ;;
     esac

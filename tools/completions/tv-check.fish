@@ -18,5 +18,6 @@ complete -c tv-check -l sarif -d 'SARIF 2.1.0, to standard output or --sarif=FIL
 complete -c tv-check -l html -d 'a page, to standard output or --html=FILE'
 complete -c tv-check -l first -d 'no row after the first incorrect one, in the order of the text'
 complete -c tv-check -l no-trace -d 'do not show both runs of a counterexample, step by step'
-complete -c tv-check -l keep -x -a '(__fish_complete_directories)' -d 'write both modules of a file with a row that is neither correct nor same there'
+complete -c tv-check -l keep -x -a '(__fish_complete_directories)' -d 'write both modules of a file with a row that is neither correct nor same there, and those on which opt fails'
+complete -c tv-check -l allow-marks -d 'status 0 for rows that are correct with the mark that a fault may hide'
 complete -c tv-check -l version -d 'versions of the programs'

@@ -20,6 +20,7 @@ _arguments -S \
   '--html=-[a page, to standard output or --html=FILE]::FILE:_files' \
   '--first[no row after the first incorrect one, in the order of the text]' \
   '--no-trace[do not show both runs of a counterexample, step by step]' \
-  '--keep=[write both modules of a file with a row that is neither correct nor same there]:FOLDER:_files -/' \
+  '--keep=[write both modules of a file with a row that is neither correct nor same there, and those on which opt fails]:FOLDER:_files -/' \
+  '--allow-marks[status 0 for rows that are correct with the mark that a fault may hide]' \
   '--version[versions of the programs]' \
   '*:file:_files'

@@ -13,10 +13,10 @@ _tv_tree() {
         --work) return ;;
     esac
     case ${COMP_WORDS[1]} in
-        run) words="-h --help -p --passes --out --opt --before --seconds --jobs" ;;
+        run) words="-h --help -p --passes --out --allow-marks --opt --before --seconds --jobs" ;;
         list) words="-h --help -p --passes" ;;
         do) words="-h --help --out --opt --before --seconds --jobs" ;;
-        table) words="-h --help --out --work" ;;
+        table) words="-h --help --out --work --allow-marks" ;;
         *) words="-h --help" ;;
     esac
     case $word in

@@ -11,6 +11,7 @@ case $words[1] in
       '(-h --help)'{-h,--help}'[show this help message and exit]' \
       '*'{-p+,--passes=}'[as opt'\''s -passes; may be given several times]:PASSES: ' \
       '--out=[folder of the answers]:DIR:_files -/' \
+      '--allow-marks[status 0 for rows that are correct with a mark]' \
       '--opt=[more arguments for opt, e.g. "-load-pass-plugin=./my.so"]:ARGS: ' \
       '--before=[passes that make the source, e.g. '\''function(sroa)'\'' after clang -O0]:PASSES: ' \
       '--seconds=[limit for a process of tv (default\: TV_TIME, else 10)]:N: ' \
@@ -35,5 +36,6 @@ case $words[1] in
       '(-h --help)'{-h,--help}'[show this help message and exit]' \
       '--out=[folder of the answers]:DIR:_files -/' \
       '--work=[a list of work, - for stdin]:FILE:_files' \
+      '--allow-marks[status 0 for rows that are correct with a mark]' \
       '*:file:_files' ;;
 esac
