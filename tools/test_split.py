@@ -53,6 +53,12 @@ PREFIX = FUNCTION.replace(") {", ") prefix { i8, i8 } { i8 1, i8 2 } {") + RIGHT
 LAYOUT = '  target  datalayout = "E"\n' + FUNCTION
 
 # What is compared, the statuses with LLVM and without, and the rows that both have.
+LOADED = """define i8 @f(ptr %p) #0 {
+  %r = load i8, ptr %p, align 1
+  ret i8 %r
+}
+attributes #0 = { null_pointer_is_valid }
+"""
 APART = [
     ("a metadata node is narrowed", RANGE, RANGE.replace("i8 9", "i8 3"), 3, 3,
      ["@f ", "@g refused source"]),
@@ -65,7 +71,7 @@ APART = [
      .replace("ret ptr @1", "ret ptr @0").replace("ret ptr @2", "ret ptr @1"), 3, 3,
      ["@f refused", "@g refused"]),
     ("a name over two lines with a semicolon", LONG_NAME,
-     LONG_NAME.replace("%x, %x\n  ret i8 %r\n}\n", "%x, 1\n  ret i8 %r\n}\n"), 1, 2, []),
+     LONG_NAME.replace("%x, %x\n  ret i8 %r\n}\n", "%x, 1\n  ret i8 %r\n}\n"), 1, 1, []),
     ("a header over two lines", "define { i8 }\n@f() {\n  ret { i8 } { i8 1 }\n}\n",
      "define { i8 }\n@f() {\n  ret { i8 } { i8 2 }\n}\n", 3, 3, ["@f refused source"]),
     ("an indented data layout", LAYOUT, LAYOUT.replace("add i8 %x, %x", "shl i8 %x, 1"), 3, 3,
@@ -88,6 +94,8 @@ APART = [
      ["@0 incorrect"]),
     ("a name in quotes", FUNCTION.replace("@f", '@"a(b"'), WRONG.replace("@f", '@"a(b"'), 1, 1,
      ['@"a(b" incorrect']),
+    ("an address that may be null", LOADED, LOADED.replace("ptr %p)", "ptr nonnull %p)"), 3, 3,
+     ["@f refused source Unsupported", "null_pointer_is_valid"]),
     ("a prefix that is a struct", PREFIX, PREFIX.replace("i8 2 }", "i8 3 }"), 3, 9, []),
 ]
 SAME = [
@@ -114,7 +122,7 @@ def names(bench):
     """Names that LLVM and tv print in different ways."""
     text = "".join(FUNCTION.replace("@f", f"@{name}") for name in NAMES)
     done = pair(bench, text, text.replace("add i8 %x, %x", "shl i8 %x, 1"))
-    equal((done.returncode, done.stdout.count(" correct\n")), (0, len(NAMES)), "rows of all names")
+    equal((done.returncode, done.stdout.count(" correct no bound\n")), (0, len(NAMES)), "rows of all names")
 
 
 def pair(bench, before, after, *args, **variables):

@@ -175,13 +175,15 @@ def limits_in(words):
 
 
 def printed(name):
-    """A name of LLVM's as tv prints it: in quotes where it is no number and no word, with \\HH."""
+    """A name of LLVM's as tv prints it: in quotes where it is no number and no word, with \\HH. A
+    number in quotes is another name than the number."""
     if name.startswith('"'):
         data = re.sub(rb"\\([0-9a-fA-F]{2})", lambda found: bytes([int(found.group(1), 16)]),
                       name[1:-1].encode("utf-8", "surrogateescape"))
     else:
         data = name.encode("utf-8", "surrogateescape")
-    if re.fullmatch(rb"\d+|[-a-zA-Z$._][-a-zA-Z$._\d]*", data):
+    number = not name.startswith('"') and data.isdigit()
+    if number or re.fullmatch(rb"[-a-zA-Z$._][-a-zA-Z$._\d]*", data):
         return data.decode()
     return '"' + "".join(chr(byte) if 0x20 <= byte <= 0x7e and byte not in b'"\\'
                          else f"\\{byte:02X}" for byte in data) + '"'

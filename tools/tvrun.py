@@ -36,6 +36,7 @@ HOW = re.compile(r"(?: by ((?:[-!\w.]+, )*[-!\w.]+))?"
                  r"(?:; (?:fault may hide|false alarm possible): (.+))?$")
 MARKS = {"correct": "fault may hide", "bounded": "fault may hide",
          "incorrect": "false alarm possible"}
+MISREAD = re.compile(r"\bnull_pointer_is_valid\b")
 NO_BOUND = "no bound"
 # With which budgets a pair is asked again.
 LARGER = {"weight": [1_000_000], "rounds": [640, 4096]}
@@ -266,6 +267,10 @@ def judge(source, target, name, how):
     begun = time.monotonic()
     bounds = tvbounds.fitted(source, target, name, how.given())
     sides = {"source": source.alone(name), "target": target.alone(name)}
+    misread = misread_word(sides)
+    if misread:
+        side, word = misread
+        return Row(name, "refused", f"{side} Unsupported {sides[side].whole}:1", what=word)
     found = how.rows(sides["source"].text, sides["target"].text, bounds, [sides["source"].name])
     row = dataclasses.replace(found[0], name=name) if len(found) == 1 \
         else Row(name, "failed", f"{len(found)} rows")
@@ -286,6 +291,17 @@ def judge(source, target, name, how):
                               bounds=shown_bounds(bounds, row.kind),
                               shown=shown_line(row, modules), rules=rules, doubts=doubts)
     return row.as_doubtful()
+
+
+def misread_word(sides):
+    """A side and the attribute in it that tv passes over in an attribute group and that changes what
+    a function means, or None. With `null_pointer_is_valid` null may be an address, and tv has none
+    there."""
+    for side, alone in sides.items():
+        found = MISREAD.search(tvir.blank(alone.text))
+        if found:
+            return side, found.group()
+    return None
 
 
 def rules_of(source, target, name):
