@@ -78,7 +78,9 @@ def tv_misbehaves(bench, way, scripts=SCRIPTS, on=None):
             equal(rows, ["same", name], f"rows of {what}")
             has(done.stdout.splitlines()[-1], "correct 0 ", " same 1")
             rows = [json.loads(line) for line in bench.file("rows").splitlines()]
-            equal([row["function"] for row in rows], ["same", name], f"objects of {what}")
+            faults = done.stdout.count("\nfault ")
+            equal([row["function"] for row in rows], ["same", name, *[""] * faults],
+                  f"objects of {what}")
             has_not(["same", "correct"], rows[1]["kind"])
         if command[0] == "tv-tree":
             baseline = bench.run("tv-baseline", "none", "o/rows.csv")

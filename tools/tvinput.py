@@ -82,12 +82,13 @@ def last_line(errors):
 
 def modules_of(texts, paths):
     """The modules in one or two texts (bytes, bitcode too), read by LLVM where it is there, and held
-    against what tv finds in them. `paths` are their names for messages."""
+    against what tv finds in them: `fault` of the first one has a difference. `paths` are their names
+    for messages."""
     if tvir.split_program():
         modules = tvir.modules_by_llvm(texts, paths)
     else:
         modules = [tvir.Module(text_of(data, path), path) for data, path in zip(texts, paths)]
-    check_names(modules[0], modules[-1])
+    modules[0].fault = difference(modules[0], modules[-1])
     return modules
 
 
@@ -99,6 +100,18 @@ MOST_UNREAD = 16
 BAD_LAYOUT = "data layout"
 LAYOUT = re.compile(r'"[^"]*"')
 USUAL_LAYOUT = '"e-m:e-i64:64-n8:16:32:64-S128"'
+
+
+def difference(source, target):
+    """What tv finds otherwise than it was found here, in words, or an empty text: the functions and
+    the sides that they are on. Where tv gives no whole answer that is said."""
+    try:
+        check_names(source, target)
+    except Failure as failure:
+        if failure.status != FAULT:
+            raise
+        return str(failure).removeprefix(f"{source.path}: ")
+    return ""
 
 
 def check_names(source, target):
@@ -248,7 +261,7 @@ def pair_of(path, other, texts, lower=False):
         source, target = modules_of(texts, [path, other])
         source.raw, target.raw = raw
         source.given = target.given = ""
-    return Pair(path, other, source, target, names, raw[0])
+    return Pair(path, other, source, target, names, raw[0], fault=raw[0].fault or source.fault)
 
 
 # The forms of a command line.
@@ -293,6 +306,7 @@ def of_one(path, lower=False):
     lowered.given = ""
     whole = src_and_tgt(lowered, path)
     whole.source.raw, whole.target.raw, whole.original = pair.source, pair.target, pair.source
+    whole.fault = pair.fault or whole.fault
     for name in whole.source.functions:
         if name in whole.target.functions \
                 and variables_of(whole.source, name) != variables_of(whole.target, name):
@@ -333,7 +347,7 @@ def src_and_tgt(module, path):
     target.functions = {name: renamed(functions[partner_of(name, "src", "tgt")], name)
                         for name in sources if partner_of(name, "src", "tgt") in functions}
     target.functions.update((name, functions[name]) for name in extra)
-    return Pair(path, path, source, target, [*sources, *extra], source)
+    return Pair(path, path, source, target, [*sources, *extra], source, fault=module.fault)
 
 
 def renamed(function, name):

@@ -225,11 +225,12 @@ class Module:
     """A module: its text, and its functions by their names. `document` is the answer of tv-split
     that it is from, None where the text is cut without LLVM; `given` is the text that the user
     gave, where `text` is LLVM's print of it. `raw` is the module that this one was written out from
-    by the plugin, or None."""
+    by the plugin, or None. `fault` says in what tv found other functions in it than these."""
 
     def __init__(self, text, path="", raw=None, functions=None, document=None, given=None):
         self.text, self.path, self.raw = text, path, raw
         self.document, self.given = document, text if given is None else given
+        self.fault = ""
         self.lines = text.splitlines()
         self.functions = {}
         for function in functions_of(text) if functions is None else functions:
