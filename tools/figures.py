@@ -24,6 +24,7 @@ import subprocess
 import sys
 import tempfile
 
+import tvir
 import tvlib
 import tvwhy
 
@@ -57,8 +58,9 @@ def advice():
 
 
 def llvm():
-    """The version of LLVM, or None where clang or opt isn't installed."""
-    if not shutil.which("clang-19") or not shutil.which("opt-19"):
+    """The version of LLVM, or None where clang or opt isn't installed, or tv-split isn't built."""
+    os.environ.pop("TV_LLVM_NONE", None)
+    if not shutil.which("clang-19") or not shutil.which("opt-19") or not tvir.split_program():
         return None
     said = subprocess.run(["opt-19", "--version"], capture_output=True, text=True).stdout
     return re.search(r"LLVM version (\S+)", said).group(1)
@@ -104,7 +106,7 @@ def renewed(text, blocks):
         elif version and (not old or f"LLVM {version};" in old or "--write" in sys.argv):
             new = pairs(version)
         else:
-            print(f"skipped: the table {found[2]}: there is no LLVM of its version")
+            print(f"skipped: the table {found[2]}: no LLVM of its version, or no tv-split")
             new = old
         return found[1] + new + found[4]
     return TABLE.sub(table, text)

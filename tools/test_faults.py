@@ -404,10 +404,10 @@ def nothing_outlives_a_kill(bench):
                              cwd=bench.folder, env=variables, stdout=subprocess.DEVNULL,
                              stderr=subprocess.DEVNULL)
     try:
-        running = wait_for(lambda: processes_with(temporary), "tv is begun")
-        limits = [open(f"/proc/{number}/limits").read() for number in running]
-        equal(any(re.search(r"Max cpu time +502 +502 ", each) for each in limits), True,
-              "the limit of processor time")
+        # The first process lists the functions, within a time of its own.
+        wait_for(lambda: any(re.search(r"Max cpu time +502 +502 ", each)
+                             for each in limits_of(processes_with(temporary))),
+                 "a process that judges is begun, with its limit of processor time")
     finally:
         child.send_signal(signal.SIGKILL)
         child.wait()
@@ -423,6 +423,14 @@ def processes_with(folder):
                 words = file.read().split(b"\0")
             if b"check" in words and any(word.startswith(folder.encode()) for word in words):
                 found.append(number)
+    return found
+
+
+def limits_of(processes):
+    found = []
+    for number in processes:
+        with contextlib.suppress(OSError), open(f"/proc/{number}/limits") as file:
+            found.append(file.read())
     return found
 
 

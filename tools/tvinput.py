@@ -96,6 +96,7 @@ def modules_of(texts, paths):
 
 # The least that tv can be asked of a pair: it reads the modules, and lists their functions.
 LISTING = ["--weight", "1", "--rounds", "0", "--workers", "1"]
+LISTING_SECONDS = 5
 MOST_UNREAD = 16
 BAD_LAYOUT = "data layout"
 LAYOUT = re.compile(r'"[^"]*"')
@@ -143,7 +144,8 @@ def listed(source, target):
     texts = [module.text for module in modules]
     for _ in range(MOST_UNREAD):
         files = tvrun.files_of(*texts)
-        done = tvlib.run([tvlib.tv_program(), "check", *LISTING, *files], seconds=OPT_SECONDS)
+        done = tvlib.run([tvlib.tv_program(), "check", *LISTING, *files],
+                         seconds=max(LISTING_SECONDS, tvlib.time_limit()))
         output = done.output.decode("utf-8", "surrogateescape")
         fault = tvrun.FAULT.match(output) if done.status == tvir.NOT_A_MODULE else None
         if done.status in range(4):
