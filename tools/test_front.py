@@ -117,6 +117,9 @@ def binary_files(bench):
     for args in (["a", "b"], ["--opt", "-passes=double", "a"]):
         done = bench.run("tv-check", *args)
         equal((done.returncode, done.stdout), (9, ""), f"status of {args}")
+        has(done.stderr, "tv-check: a:")
+        done = bench.run("tv-check", *args, TV_LLVM_NONE="1")
+        equal((done.returncode, done.stdout), (9, ""), f"status of {args} without LLVM")
         has(done.stderr, "tv-check: a: neither LLVM's text nor bitcode\n")
 
 
@@ -150,7 +153,8 @@ b:
      "[turns 4]"),
     ("a pointer that isn't used", PLAIN.replace("(i8 %x)", "(i8 %x, ptr %p)"),
      "[blocks 1 bytes 8]"),
-    ("a global", PLAIN.replace("%x, %x\n", "%x, %x\n  store i8 0, ptr @g\n"),
+    ("a global", "@g = global i8 0\n"
+     + PLAIN.replace("%x, %x\n", "%x, %x\n  store i8 0, ptr @g\n"),
      "[blocks 2 bytes 8]"),
     ("a local variable", PLAIN.replace("  ret", "  %p = alloca i8\n  store i8 %y, ptr %p\n"
                                                 "  %z = load i8, ptr %p\n  ret"), "no bound"),
@@ -192,7 +196,8 @@ def asks_again(bench):
             pass
         limit = () if "--seconds" in words else ("--seconds", "200")
         done = bench.run("tv-check", "a.ll", "b.ll", *limit, *words, TV=fake, FAKE_LOG=log, **more)
-        asked = bench.file("log").splitlines()
+        # The first run lists the functions.
+        asked = bench.file("log").splitlines()[1:]
         return done.stdout.splitlines()[1], asked
     once, more = "100000 64", "1000000 64"
     equal(row(FAKE_KIND="incorrect", FAKE_WEIGHT="500000"),

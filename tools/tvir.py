@@ -25,6 +25,7 @@ FAULT = 2
 NAME = r'"[^"]*"|[-\w.$]+'
 DEFINE = re.compile(rf"@({NAME})\s*\(")
 MENTION = re.compile(rf"[%@](?:{NAME})|#\d+")
+LAYOUT = re.compile(r"^target datalayout = .*$", re.M)
 QUIET = re.compile(r'"[^"]*"|;[^\n]*')
 COMMENT = re.compile(r'("[^"]*")|;[^\n]*')
 PLAIN = re.compile(r"[-a-zA-Z$._][-a-zA-Z0-9$._]*")
@@ -253,7 +254,8 @@ class Module:
     def alone(self, name, text=None):
         """One function, or another text in its place, as a module: with all that it reaches where
         LLVM cut it out, else with all that is outside functions. Where LLVM can't cut it out, since
-        it names a block of another function, the function is there alone, which tv refuses."""
+        it names a block of another function, the function is there alone, which tv refuses. A layout
+        that the plugin found to say nothing of the function is left out; its line stays, empty."""
         function = self.functions[name]
         if function.alone:
             found = function.alone
@@ -261,6 +263,8 @@ class Module:
             found = Alone(function.text, name, 1, function.text.count("\n"), function.first)
         else:
             found = self.among_gaps(function)
+        if "layout" in self.noted(name, "tv-rules"):
+            found = dataclasses.replace(found, text=LAYOUT.sub("", found.text, count=1))
         return found if text is None else found.replaced(text)
 
     def among_gaps(self, function):

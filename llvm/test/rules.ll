@@ -963,7 +963,8 @@ define i32 @src.global_constant_read() {
 }
 define i32 @tgt.global_constant_read() {
   %v = load i32, ptr @fixed, align 4
-  ret i32 %v
+  %w = add i32 %v, 0
+  ret i32 %w
 }
 
 ; refused source Unsupported getelementptr
@@ -982,6 +983,7 @@ define i32 @src.global_weak() {
   ret i32 %v
 }
 define i32 @tgt.global_weak() {
+  %unused = add i8 0, 0
   %v = load i32, ptr @perhaps, align 4
   ret i32 %v
 }
@@ -992,6 +994,7 @@ define i32 @src.global_of_thread() {
   ret i32 %v
 }
 define i32 @tgt.global_of_thread() {
+  %unused = add i8 0, 0
   %v = load i32, ptr @each, align 4
   ret i32 %v
 }

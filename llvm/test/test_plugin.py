@@ -90,7 +90,8 @@ class Bench:
     def __init__(self, folder, tv):
         self.folder, self.tv = folder, tv
         kept = {name: value for name, value in os.environ.items() if not name.startswith("TV")}
-        self.variables = {**kept, "TV": tv, "TV_LLVM": PLUGIN}
+        self.variables = {**kept, "TV": tv, "TV_LLVM": PLUGIN,
+                          "TV_SPLIT": os.path.join(BUILD, "tv-split")}
 
     def run(self, *command, data="", **variables):
         return subprocess.run(command, cwd=self.folder, input=data, text=True,
@@ -223,7 +224,8 @@ def conventions(bench):
     after = bench.write("after.ll", CONVENTIONS.replace("coldcc ", ""))
     for sides in ((before, after), (after, before)):
         done = bench.run(os.path.join(TOOLS, "tv-check"), "--lower", "--no-trace", *sides)
-        within("@cold correct by header; fault may hide: header:coldcc\n", done.stdout, "tv-check")
+        within("@cold correct by header; fault may hide: header:coldcc\n", plain(done.stdout),
+               "tv-check")
 
 
 def integers(bench):
