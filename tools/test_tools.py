@@ -1036,7 +1036,7 @@ def baseline_of_lines(bench):
 def lower_without_plugin(bench):
     done = bench.run("tv-check", "--lower", ARITH, ARITH, TV_LLVM="/none")
     equal(done.returncode, 127, "status")
-    has(done.stderr, "/none: no such plugin; build it")
+    has(done.stderr, "--lower needs tv-split, which is built with the plugin")
 
 
 def baseline_of_tree(bench):
