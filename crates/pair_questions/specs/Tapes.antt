@@ -1,14 +1,17 @@
--- Tapes that are shifted by some positions.
-use Rattle.std.specs.Prelude.{ℕ, ◌+◌, ◌-◌, ◌^◌, nat_lt, if◌then◌else◌, List, Option, Some, None}
-use Rattle.verdicts.specs.Covers.{word_before, word_behind}
-use Rattle.pair_questions.specs.declared.tapes.Shift.{Shift}
-use Rattle.pair_questions.specs.declared.tapes.Shift.TheVariants.{Later, Earlier}
+-- The words of a point, as terms.
+use Rattle.std.specs.Prelude.{ℕ, List, [], ◌∷◌, Option, Some, None, slice_index}
+use Rattle.bv_terms.specs.declared.term.Term.{Term}
+use Rattle.bv_terms.specs.Trees.{term_at}
+use Rattle.mem_terms.specs.declared.inputs.ArgTerms.{ArgTerms}
+use Rattle.mem_terms.specs.declared.inputs.ArgTerms.TheVariants as arg
 
-abbrev pub shift_of : Shift → List ℕ → ℕ → ℕ
-shift_of (Later by) tape i = word_behind tape by i
-shift_of (Earlier by) tape i = word_before tape by i
+-- the numbers of the integer arguments, which are 0 at poison in a code
+unfoldable pub integers_at : (ℕ → ℕ → ℕ) → List Term → List ArgTerms → List ℕ
+integers_at v terms [] = []
+integers_at v terms (arg.Int flag number ∷ rest) = term_at v terms number ∷ integers_at v terms rest
+integers_at v terms (arg.Ptr flag block offset ∷ rest) = integers_at v terms rest
 
--- the index that a word comes from
-abbrev pub source_of : Shift → ℕ → Option ℕ
-source_of (Later by) i = if nat_lt (i + by) (2 ^ 64) then Some (i + by) else None
-source_of (Earlier by) i = if nat_lt i by then None else Some (i - by)
+-- the word at the index, 0 outside the list and where there is no index
+abbrev pub word_in : List ℕ → Option ℕ → ℕ
+word_in words None = 0
+word_in words (Some i) = slice_index words i
