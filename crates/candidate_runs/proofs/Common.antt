@@ -1,7 +1,8 @@
 -- What proofs of this crate cite of std, of other crates and of its definitions, passed on from one place. Declares nothing.
-pub use Rattle.std.proofs.Common.{ℕ, zero, suc, ◌≡◌, ◌<◌, ◌≤◌, ◌+◌, List, [], ◌∷◌, ◌++◌, length, map, drop, take, get_or, Bool, true, false, ◌||◌, Some, slice_get, refl, sym, ap, ◌∙◌, subst, arith, add-one, zero-add, append-nil, append_assoc}
+pub use Rattle.std.proofs.Common.{ℕ, zero, suc, ◌≡◌, ◌<◌, ◌≤◌, ◌+◌, ◌⊎◌, inl, inr, min, List, [], ◌∷◌, ◌++◌, length, map, drop, take, get_or, Bool, true, false, ◌||◌, Some, slice_get, refl, sym, ap, ◌∙◌, subst, arith, add-one, zero-add, append-nil, append_assoc}
 pub use Rattle.std.proofs.Math.ListN.{set, length-set}
 pub use Rattle.std.proofs.lemmas.List.{drop_more, drop_all, take_more, take_all}
+pub use Rattle.std.proofs.lemmas.Bool.{cases_lt}
 pub use Rattle.std.specs.List.{flat_map}
 pub use Rattle.std.specs.Prelude.{slice_index}
 pub use Rattle.byte_block.specs.declared.block.MemoryBlock.{MemoryBlock}

@@ -1,5 +1,5 @@
 -- Tapes that cover a point, one after another.
-use Rattle.candidate_runs.proofs.Common.{ℕ, ◌≡◌, ◌<◌, ◌+◌, List, [], ◌∷◌, ◌++◌, length, map, drop, get_or, Bool, true, false, ◌||◌, refl, sym, ap, ◌∙◌, drop_more, drop_all, arith, MemoryBlock, Outcome, Bounds, Point, RunPair, is_refined, run_of, covers, some_covers, DoesEnd, NoneCovers, Candidate, tape_of, tapes_of}
+use Rattle.candidate_runs.proofs.Common.{ℕ, ◌≡◌, ◌<◌, ◌≤◌, ◌+◌, List, [], ◌∷◌, ◌++◌, length, map, drop, get_or, Bool, true, false, ◌||◌, refl, sym, ap, ◌∙◌, drop_more, drop_all, MemoryBlock, Outcome, Bounds, Point, RunPair, is_refined, run_of, covers, some_covers, DoesEnd, NoneCovers, Candidate, tape_of, tapes_of}
 use Rattle.choice_interp.specs.declared.ending.Ending.{Ending}
 use Rattle.choice_interp.specs.Ran.{outcome_of}
 
@@ -11,16 +11,16 @@ covers_at pair bounds p tape source target holds left memory e f h = h ∙ sym (
     both x x' y y' e f = rw (e, f) refl
 
 -- the candidates so far cover nothing
-none_more : (pair : RunPair) (bounds : Bounds) (p : Point) (cs : List Candidate) (i : ℕ) (c : Candidate) → i < length cs → c ≡ get_or cs i c → covers pair bounds p (tape_of pair bounds p c) ≡ false
+none_more : (pair : RunPair) (bounds : Bounds) (p : Point) (cs : List Candidate) (i : ℕ) (d : Candidate) → i < length cs → covers pair bounds p (tape_of pair bounds p (get_or cs i d)) ≡ false
     → some_covers pair bounds p (tapes_of pair bounds p (drop i cs)) ≡ some_covers pair bounds p (tapes_of pair bounds p (drop (i + 1) cs))
 unfolding some_covers
-none_more pair bounds p cs i c below is fails = rw (drop_more cs i c below, ← is, fails) refl
+none_more pair bounds p cs i d below fails = rw (drop_more cs i d below, fails) refl
 
-pub none_after : (pair : RunPair) (bounds : Bounds) (p : Point) (cs : List Candidate) (i : ℕ) (c : Candidate) → i < length cs → c ≡ get_or cs i c → covers pair bounds p (tape_of pair bounds p c) ≡ false
+pub none_after : (pair : RunPair) (bounds : Bounds) (p : Point) (cs : List Candidate) (i : ℕ) (d : Candidate) → i < length cs → covers pair bounds p (tape_of pair bounds p (get_or cs i d)) ≡ false
     → some_covers pair bounds p (tapes_of pair bounds p cs) ≡ some_covers pair bounds p (tapes_of pair bounds p (drop i cs)) → some_covers pair bounds p (tapes_of pair bounds p cs) ≡ some_covers pair bounds p (tapes_of pair bounds p (drop (i + 1) cs))
-none_after pair bounds p cs i c below is fails h = h ∙ none_more pair bounds p cs i c below is fails
+none_after pair bounds p cs i d below fails h = h ∙ none_more pair bounds p cs i d below fails
 
-pub none_at_end : (pair : RunPair) (bounds : Bounds) (p : Point) (cs : List Candidate) (i : ℕ) → length cs ≡ i
+pub none_at_end : (pair : RunPair) (bounds : Bounds) (p : Point) (cs : List Candidate) (i : ℕ) → length cs ≤ i
     → some_covers pair bounds p (tapes_of pair bounds p cs) ≡ some_covers pair bounds p (tapes_of pair bounds p (drop i cs)) → NoneCovers pair bounds p cs
 unfolding some_covers
-none_at_end pair bounds p cs i e h = h ∙ ap (λ (cs : List Candidate). some_covers pair bounds p (tapes_of pair bounds p cs)) (drop_all i cs (omega (arith, e)))
+none_at_end pair bounds p cs i le h = h ∙ ap (λ (cs : List Candidate). some_covers pair bounds p (tapes_of pair bounds p cs)) (drop_all i cs le)

@@ -1,3 +1,4 @@
 mod Common
 pub mod Covering
-mod Words
+pub mod Tried
+mod Listed

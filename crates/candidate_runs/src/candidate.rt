@@ -33,8 +33,9 @@ fn integer_count(parameters: &[Parameter]) -> usize
 {
     let mut count = 0;
     for parameter in parameters {
-        if let IrType::Int(_) = parameter.of_type {
-            count += 1;
+        match parameter.of_type {
+            IrType::Int(_) => count += 1,
+            IrType::Ptr => {}
         }
     }
     count

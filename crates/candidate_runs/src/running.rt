@@ -60,13 +60,14 @@ pub fn run_target(
     ensures taken { OnOk result ((run_of pair.now.target bounds.now point.now.input point.now.tape).taken ≡ runner.new.machine.taken) }
     ensures ready { IsRunner pair.now.target runner.new }
 {
-    run_again(
+    let ending = run_again(
         runner,
         pair.target(),
         bounds,
         &point.input,
         point.tape.as_slice(),
-    )
+    )?;
+    Ok(ending)
 }
 
 /// Whether the source's run on the tape allows the target's run on the point, which ended so

@@ -29,8 +29,11 @@ pub fn write_integers(
 {
     numbers.clear();
     for i in 0..parameters.len().min(args.len()) {
-        if let IrType::Int(_) = parameters[i].of_type {
-            numbers.push(number_or_0(args[i]))?;
+        match parameters[i].of_type {
+            IrType::Int(_) => {
+                numbers.push(number_or_0(args[i]))?;
+            }
+            IrType::Ptr => {}
         }
     }
     Ok(())

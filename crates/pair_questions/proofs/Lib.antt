@@ -13,6 +13,7 @@ mod Moved
 mod Numbered
 mod Ordered
 mod SameTapes
-mod Shifting
+mod Joining
+mod Listing
 mod Trying
 mod Uncovering

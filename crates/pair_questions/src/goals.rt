@@ -4,14 +4,13 @@ ghost use Rattle.std.specs.Prelude.{◌≡◌, ◌∷◌, ◌&&◌, [], IfOk, le
 ghost use Rattle.verdicts.specs.Trail.{IsPoint};
 ghost use Rattle.bv_terms.specs.Trees.{IsTerm, Keeps, Tests, bit_at};
 ghost use Rattle.mem_terms.specs.Inputs.{AreWords, words_at};
-ghost use Rattle.mem_terms.specs.Outcomes.{IsOutcome, LeavesGiven};
 ghost use Rattle.refine_terms.specs.Deciding.{Decides};
 ghost use Rattle.refine_terms.specs.Numbers.{IsInputOf, IsTapeOf, numbers_at};
 ghost use Rattle.pair_questions.specs.Candidates.{AreTapes, IsTrial, Narrows, input_in, none_allows, outcome_in, tapes_at, words_of_each};
+ghost use Rattle.pair_questions.specs.PointTermsOf.{ArePointTerms};
 ghost use Rattle.pair_questions.specs.Questions.{IsCovering, IsMissed};
 ghost use Rattle.pair_questions.specs.Subjects.{IsOfTarget, IsSubject};
 ghost use Rattle.verdicts.specs.Pair.{layout_of};
-ghost use Rattle.mem_terms.specs.Memory.{frames_of};
 
 use crate::point_terms::PointTerms;
 use crate::candidates::candidate_tapes;
@@ -97,9 +96,7 @@ pub fn and_no_tape(
     terms: &mut Terms,
 ) -> Result<TermId, NoMemory>
     requires subject { IsSubject subject.now }
-    requires input { IsInputOf subject.now.shape terms.old of.now.input }
-    requires target { IsOutcome terms.old of.now.target }
-    requires given { LeavesGiven (frames_of (layout_of subject.now.pair.now subject.now.bounds.now)) of.now.target }
+    requires terms { ArePointTerms subject.now terms.old of.now }
     requires goal { IsTerm terms.old 1 goal }
     ensures made { IfOk result (λ id. Tests terms.new id (λ v. bit_at v terms.old goal && none_allows subject.now.pair.now.source subject.now.bounds.now
         (input_in (layout_of subject.now.pair.now subject.now.bounds.now) v terms.old of.now.input) (outcome_in (layout_of subject.now.pair.now subject.now.bounds.now) v terms.old of.now.target) (tape.now ∷ []))) }
@@ -171,11 +168,7 @@ pub fn and_no_candidate(
     terms: &mut Terms,
 ) -> Result<TermId, NoMemory>
     requires subject { IsSubject subject.now }
-    requires input { IsInputOf subject.now.shape terms.old of.now.input }
-    requires tape { AreWords terms.old of.now.tape.words }
-    requires numbers { AreWords terms.old of.now.numbers }
-    requires target { IsOutcome terms.old of.now.target }
-    requires given { LeavesGiven (frames_of (layout_of subject.now.pair.now subject.now.bounds.now)) of.now.target }
+    requires terms { ArePointTerms subject.now terms.old of.now }
     requires goal { IsTerm terms.old 1 goal }
     ensures made { IfOk result (λ id. Tests terms.new id (λ v. bit_at v terms.old goal && none_allows subject.now.pair.now.source subject.now.bounds.now
         (input_in (layout_of subject.now.pair.now subject.now.bounds.now) v terms.old of.now.input) (outcome_in (layout_of subject.now.pair.now subject.now.bounds.now) v terms.old of.now.target)

@@ -1,12 +1,14 @@
 //! The question for a point that the tapes so far don't cover.
 
-ghost use Rattle.std.specs.Prelude.{◌≡◌, ◌++◌, ◌∷◌, ◌+◌, ◌<◌, [], Contains, IfOk, IfSome, List, MatchOption, OnOk, IsTrue, IsFalse, length};
-ghost use Rattle.candidate_runs.specs.Candidates.{AreTemplates, NoneCovers, integer_count, tape_of};
+ghost use Rattle.std.specs.Prelude.{◌≡◌, ◌++◌, ◌∷◌, ◌<◌, [], IfOk, IfSome, IsFalse, IsTrue, List, OnOk, length};
+ghost use Rattle.candidate_runs.specs.Candidates.{NoneCovers};
 ghost use Rattle.candidate_runs.specs.declared.candidate.Candidate.{Candidate};
+ghost use Rattle.pair_questions.specs.Orders.{IsOrder};
 ghost use Rattle.pair_questions.specs.PointQuestions.{IsPointQuestion, IsQuestionOf};
-ghost use Rattle.pair_questions.specs.Questions.{IsFoundCode, IsFoundMissed, IsFoundPoint, IsLeastMissed};
+ghost use Rattle.pair_questions.specs.PointTermsOf.{ArePointTerms};
+ghost use Rattle.pair_questions.specs.Questions.{IsFoundCode, IsFoundMissed, IsFoundPoint, point_widths};
+ghost use Rattle.pair_questions.specs.Shapes.{input_ids};
 ghost use Rattle.pair_questions.specs.Subjects.{IsSubject};
-ghost use Rattle.verdicts.specs.Covers.{covers};
 ghost use Rattle.verdicts.specs.Trail.{IsPoint};
 
 use crate::asking::{least_numbers, widths_of};
@@ -20,7 +22,6 @@ use bv_terms::{TermId, Terms};
 use candidate_runs::{Candidate, SHIFTS, templates_for, tried_on};
 use points::{Point, point_of};
 use std::alloc::Global;
-use std::mem::replace;
 use support::{NoMemory, Sequence};
 
 /// Terms with a goal that is true where the numbers of the variables are the code of a point that
@@ -63,6 +64,12 @@ fn point_terms(
     terms: &mut Terms,
     order: &mut Vec<TermId>,
 ) -> Result<PointTerms, NoMemory>
+    requires subject { IsSubject subject.now }
+    requires no_terms { terms.old ≡ [] }
+    requires no_order { order.old.items ≡ [] }
+    ensures terms { IfOk result (ArePointTerms subject.now terms.new) }
+    ensures order { OnOk result (IsOrder terms.new order.new.items (point_widths subject.now.pair.now subject.now.bounds.now)) }
+    ensures ids { IfOk result (λ of. order.new.items ≡ input_ids of.input ++ of.tape.words) }
 {
     let input = input_variables(alloc, &subject.shape, terms, order)?;
     let tape = tape_variables(alloc, subject.shape.words, terms, order)?;
@@ -83,7 +90,7 @@ impl PointQuestion {
         ensures question { IfOk result (IsQuestionOf subject.now []) }
         ensures none { IfOk result (λ question. question.tapes ≡ []) }
         ensures limit { IfOk result (λ question. question.limit ≡ limit) }
-        ensures left { IfOk result (λ question. AreTemplates (integer_count subject.now.shape.parameters) question.left.items) }
+        ensures left { IfOk result (λ question. question.left.items ≡ []) }
     {
         let mut terms = Terms::new(alloc);
         let mut order = Vec::new(alloc);
@@ -98,7 +105,7 @@ impl PointQuestion {
             widths: Sequence::from_vec(widths),
             of,
             goal,
-            left: templates_for(alloc, subject.shape.parameters.as_slice())?,
+            left: Vec::new(alloc),
         })
     }
 
@@ -111,12 +118,14 @@ impl PointQuestion {
         ensures none { IfOk result (λ question. question.tapes ≡ []) }
         ensures limit { IfOk result (λ question. question.limit ≡ limit) }
     {
+        let templates = templates_for(alloc, subject.shape.parameters.as_slice())?;
         let mut question = PointQuestion::for_any(alloc, subject, limit)?;
         question.join(alloc, subject, &SHIFTS)?;
         if limit.is_some() {
-            let left = replace(&mut question.left, Vec::new(alloc));
-            question.join(alloc, subject, left.as_slice())?;
+            question.join(alloc, subject, templates.as_slice())?;
+            return Ok(question);
         }
+        question.left = templates;
         Ok(question)
     }
 
@@ -207,31 +216,31 @@ impl PointQuestion {
         }
     }
 
-    /// Takes a candidate that covers the point out of those that are not in the goal; `None` where
-    /// none of these does.
-    fn take_cover(
+    /// Brings a candidate into the goal that covers the point and was left out of it, if there is one.
+    fn widen(
         &mut self,
         alloc: Global,
         subject: &Subject,
         point: &Point,
-    ) -> Result<Option<Candidate>, NoMemory>
+    ) -> Result<bool, NoMemory>
         requires subject { IsSubject subject.now }
-        requires point { IsPoint subject.now.pair.now subject.now.bounds.now point.now }
+        requires question { IsPointQuestion subject.now self.old }
+        ensures widened { IfOk result (λ widened. IsTrue widened → IsPointQuestion subject.now self.new × (length self.new.left.items < length self.old.left.items)) }
+        ensures none { IfOk result (λ widened. IsFalse widened → NoneCovers subject.now.pair.now subject.now.bounds.now point.now self.old.left.items × (self.new ≡ self.old)) }
+        ensures tapes { self.new.tapes ≡ self.old.tapes }
+        ensures limit { self.new.limit ≡ self.old.limit }
     {
         if self.left.is_empty() {
-            return Ok(None);
+            return Ok(false);
         }
-        let found = tried_on(
-            alloc,
-            subject.pair,
-            subject.bounds,
-            point,
-            self.left.as_slice(),
-            subject.need as usize,
-        )?;
-        match found {
-            Some(i) => Ok(Some(self.left.remove(i))),
-            None => Ok(None),
+        let left = self.left.as_slice();
+        let need = subject.need as usize;
+        match tried_on(alloc, subject.pair, subject.bounds, point, left, need)? {
+            Some(i) => {
+                let candidate = self.left.remove(i);
+                self.join(alloc, subject, &[candidate]).and(Ok(true))
+            }
+            None => Ok(false),
         }
     }
 
@@ -241,19 +250,20 @@ impl PointQuestion {
     pub fn least(&mut self, alloc: Global, subject: &Subject) -> Result<Found<Point>, NoMemory>
         requires subject { IsSubject subject.now }
         requires question { IsPointQuestion subject.now self.old }
-        ensures found { IfOk result (IsFoundPoint subject.now.pair.now subject.now.bounds.now self.old.tapes self.old.limit) }
+        ensures found { IfOk result (IsFoundPoint subject.now.pair.now subject.now.bounds.now self.new.tapes self.new.limit) }
         ensures question { OnOk result (IsPointQuestion subject.now self.new) }
         ensures tapes { self.new.tapes ≡ self.old.tapes }
         ensures limit { self.new.limit ≡ self.old.limit }
     {
         loop {
-            let found = self.least_missed(alloc, subject)?;
-            let Found::Least(point) = &found else {
-                return Ok(found);
-            };
-            match self.take_cover(alloc, subject, point)? {
-                Some(candidate) => self.join(alloc, subject, &[candidate])?,
-                None => return Ok(found),
+            match self.least_missed(alloc, subject)? {
+                Found::Least(point) => {
+                    if !self.widen(alloc, subject, &point)? {
+                        return Ok(Found::Least(point));
+                    }
+                }
+                Found::None(cert) => return Ok(Found::None(cert)),
+                Found::Spent(cert) => return Ok(Found::Spent(cert)),
             }
         }
     }

@@ -1,13 +1,13 @@
 //! Tapes of the source, as terms.
 
-ghost use Rattle.std.specs.Prelude.{◌≡◌, IfOk, List, Option, cond, ℕ, slice_index};
+ghost use Rattle.std.specs.Prelude.{◌≡◌, IfOk, List, ℕ, slice_index};
 ghost use Rattle.bv_terms.specs.declared.term.Term.{Term};
-ghost use Rattle.bv_terms.specs.Trees.{IsTerm, Keeps, Makes, term_at};
+ghost use Rattle.bv_terms.specs.Trees.{Keeps, Makes};
 ghost use Rattle.candidate_runs.specs.Candidates.{function_of};
 ghost use Rattle.mem_terms.specs.Inputs.{AreArgs, AreWords, words_at};
 ghost use Rattle.ir_tree.specs.declared.tree.Parameter.{Parameter};
-ghost use Rattle.verdicts.specs.Covers.{words_of};
-ghost use Rattle.pair_questions.specs.Tapes.{AreIntegersOf, integers_at, word_in};
+ghost use Rattle.verdicts.specs.Covers.{words_of, word_behind};
+ghost use Rattle.pair_questions.specs.Tapes.{integers_at};
 
 use bv_terms::{TermId, Terms};
 use candidate_runs::Candidate;
@@ -40,13 +40,25 @@ pub fn integer_words(
     Ok(Sequence::from_vec(numbers))
 }
 
-/// The word at an index, the zero outside the list and where there is no index.
-fn word_in(words: &[TermId], place: Option<usize>, zero: TermId) -> TermId
-    ensures { (v : ℕ → ℕ → ℕ) (terms : List Term) → AreWords terms words.now → Makes terms zero 64 (λ _. 0) → Makes terms result 64 (λ v. word_in (words_at v terms words.now) place) }
+/// The word at an index, the zero outside the list.
+fn word_in(words: &[TermId], place: usize, zero: TermId) -> TermId
+    ensures { (terms : List Term) → AreWords terms words.now → Makes terms zero 64 (λ _. 0) → Makes terms result 64 (λ v. slice_index (words_at v terms words.now) place) }
 {
-    match place {
-        Some(place) if place < words.len() => words[place],
-        _ => zero,
+    if place < words.len() {
+        words[place]
+    } else {
+        zero
+    }
+}
+
+/// The word this many positions after an index.
+fn word_after(words: &[TermId], by: usize, place: usize, zero: TermId) -> TermId
+    ensures { (terms : List Term) → AreWords terms words.now → Makes terms zero 64 (λ _. 0) → Makes terms result 64 (λ v. word_behind (words_at v terms words.now) by place) }
+{
+    if place < words.len() && by < words.len() - place {
+        words[place + by]
+    } else {
+        zero
     }
 }
 
@@ -65,13 +77,19 @@ fn candidate_word(
     ensures made { IfOk result (λ id. Makes terms.new id 64 (λ v. function_of (words_at v terms.old numbers.now) (words_at v terms.old words.now) candidate place)) }
     ensures kept { Keeps terms.old terms.new }
 {
-    let here = word_in(words, Some(place), zero);
+    let here = word_in(words, place, zero);
     match candidate {
-        Candidate::Later(by) => Ok(word_in(words, place.checked_add(by), zero)),
-        Candidate::Earlier(by) => Ok(word_in(words, place.checked_sub(by), zero)),
-        Candidate::Plus(of) => add(terms, here, word_in(numbers, Some(of), zero)),
-        Candidate::Minus(of) => sub(terms, here, word_in(numbers, Some(of), zero)),
-        Candidate::Xor(of) => xor(terms, here, word_in(numbers, Some(of), zero)),
+        Candidate::Later(by) => Ok(word_after(words, by, place, zero)),
+        Candidate::Earlier(by) => {
+            if place < by {
+                Ok(zero)
+            } else {
+                Ok(word_in(words, place - by, zero))
+            }
+        }
+        Candidate::Plus(of) => add(terms, here, word_in(numbers, of, zero)),
+        Candidate::Minus(of) => sub(terms, here, word_in(numbers, of, zero)),
+        Candidate::Xor(of) => xor(terms, here, word_in(numbers, of, zero)),
     }
 }
 

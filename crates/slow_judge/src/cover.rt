@@ -1,6 +1,6 @@
 //! Whether some tape of the source covers a point.
 
-ghost use Rattle.std.specs.Prelude.{◌≡◌, ◌↔◌, ◌≤◌, ◌<◌, ◌+◌, ◌^◌, IsTrue, IfOk, OnOk, length};
+ghost use Rattle.std.specs.Prelude.{◌≡◌, ◌↔◌, IsTrue, IfOk, length};
 ghost use Rattle.choice_interp.specs.Runners.{IsRunner};
 ghost use Rattle.points.specs.Run.{run_of};
 ghost use Rattle.points.specs.Tapes.{need_of};
@@ -50,7 +50,7 @@ fn some_candidate_allows(
 ) -> Result<bool, NoMemory>
     requires pair { AreRunnable pair.now }
     requires ready { IsReady pair.now bounds.now bench.old }
-    requires point { IsPoint pair.now bounds.now point.now }
+    requires args { length point.now.input.args ≡ length pair.now.target.parameters }
     requires target { DoesEnd pair.now bounds.now point.now target bench.old.target.machine.memory }
     ensures value { IfOk result (λ holds. holds ≡ some_covers pair.now bounds.now point.now (tried pair.now bounds.now point.now)) }
     ensures ready { IsReady pair.now bounds.now bench.new }
@@ -102,6 +102,7 @@ pub fn is_uncovered(
 ) -> Result<bool, NoMemory>
     requires pair { AreRunnable pair.now }
     requires ready { IsReady pair.now bounds.now bench.old }
+    requires args { length point.now.input.args ≡ length pair.now.target.parameters }
     ensures value { IfOk result (λ holds. IsTrue holds ↔ IsUncovered pair.now bounds.now tapes.now point.now) }
     ensures ready { IsReady pair.now bounds.now bench.new }
 {

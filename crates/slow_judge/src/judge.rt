@@ -8,7 +8,8 @@ ghost use Rattle.points.specs.Tapes.{need_of, widest_choice};
 ghost use Rattle.verdicts.specs.Pair.{run_pair};
 ghost use Rattle.verdicts.specs.Trail.{IsVerdict};
 ghost use Rattle.pair_costs.specs.Small.{AreSmall};
-ghost use Rattle.slow_judge.specs.Search.{AreRunnable, IsReady, HasTrail};
+ghost use Rattle.candidate_runs.specs.Candidates.{AreRunnable};
+ghost use Rattle.slow_judge.specs.Search.{IsReady, HasTrail};
 
 use crate::bench::Bench;
 use crate::round::{add_tape, next_round};

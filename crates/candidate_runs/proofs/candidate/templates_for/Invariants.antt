@@ -1,4 +1,4 @@
-use Rattle.candidate_runs.proofs.Words.{AreFirst}
+use Rattle.candidate_runs.proofs.Listed.{AreFirst}
 use Rattle.candidate_runs.proofs.candidate.templates_for.Given as goal
 
 abbrev pub invariant-loop-place : goal.invariant-loop-place

@@ -1,5 +1,5 @@
 use Rattle.candidate_runs.proofs.Common.{arith, length-set, function_of}
-use Rattle.candidate_runs.proofs.Words.{words_more}
+use Rattle.candidate_runs.proofs.Listed.{words_more}
 use Rattle.candidate_runs.proofs.words.write_words.Goals as goal
 
 pub loop-i-preserved : goal.loop-i-preserved

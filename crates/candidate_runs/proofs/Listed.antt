@@ -1,5 +1,5 @@
 -- The numbers of the integer arguments, and the words of a candidate.
-use Rattle.candidate_runs.proofs.Common.{ℕ, zero, suc, ◌≡◌, ◌<◌, ◌≤◌, ◌+◌, List, [], ◌∷◌, ◌++◌, length, map, drop, take, get_or, refl, sym, ap, subst, ◌∙◌, arith, add-one, zero-add, append-nil, append_assoc, set, drop_more, drop_all, take_more, take_all, flat_map, slice_index, IrType, Parameter, Value, integer, integers, templates, words_of, AreTemplates, counted, function_of, integer_count, Candidate, Plus, Minus, Xor}
+use Rattle.candidate_runs.proofs.Common.{ℕ, zero, suc, ◌≡◌, ◌<◌, ◌≤◌, ◌+◌, ◌⊎◌, inl, inr, min, cases_lt, List, [], ◌∷◌, ◌++◌, length, map, drop, take, get_or, refl, sym, ap, subst, ◌∙◌, arith, add-one, zero-add, append-nil, append_assoc, set, drop_more, drop_all, take_more, take_all, flat_map, slice_index, IrType, Parameter, Value, integer, integers, templates, words_of, AreTemplates, counted, function_of, integer_count, Candidate, Plus, Minus, Xor}
 use Rattle.ir_tree.specs.declared.tree.IrType.TheVariants as type
 use Rattle.std.proofs.Math.Seq.{take-suc-set}
 use Rattle.std.proofs.lemmas.List.FromFn.{map-range_with_len_more}
@@ -10,16 +10,17 @@ words_more words i w s below done is =
 
 -- ---- integer arguments
 
-integers_step : (ps : List Parameter) (vs : List Value) (i : ℕ) (p : Parameter) (v : Value) → i < length ps → i < length vs → p ≡ get_or ps i p → v ≡ get_or vs i v
-    → integers (drop i ps) (drop i vs) ≡ integer p.of_type v ++ integers (drop (i + 1) ps) (drop (i + 1) vs)
+integers_step : (ps : List Parameter) (vs : List Value) (i : ℕ) (d : Parameter) (e : Value) → i < length ps → i < length vs
+    → integers (drop i ps) (drop i vs) ≡ integer (get_or ps i d).of_type (get_or vs i e) ++ integers (drop (i + 1) ps) (drop (i + 1) vs)
 unfolding integers
-integers_step ps vs i p v lp lv e f = rw (drop_more ps i p lp, drop_more vs i v lv, ← e, ← f) refl
+integers_step ps vs i d e lp lv = rw (drop_more ps i d lp, drop_more vs i e lv) refl
 
-pub integers_more : (ps : List Parameter) (vs : List Value) (i : ℕ) (p : Parameter) (v : Value) (done after : List ℕ) → i < length ps → i < length vs → p ≡ get_or ps i p → v ≡ get_or vs i v
-    → after ≡ done ++ integer p.of_type v → done ++ integers (drop i ps) (drop i vs) ≡ integers ps vs → after ++ integers (drop (i + 1) ps) (drop (i + 1) vs) ≡ integers ps vs
-integers_more ps vs i p v done after lp lv e f is h =
+pub integers_more : (ps : List Parameter) (vs : List Value) (i : ℕ) (d : Parameter) (e : Value) (t : IrType) (done after : List ℕ) → i < length ps → i < length vs → (get_or ps i d).of_type ≡ t → after ≡ done ++ integer t (get_or vs i e)
+    → done ++ integers (drop i ps) (drop i vs) ≡ integers ps vs → after ++ integers (drop (i + 1) ps) (drop (i + 1) vs) ≡ integers ps vs
+integers_more ps vs i d e t done after lp lv of_type is h =
     let rest = integers (drop (i + 1) ps) (drop (i + 1) vs) in
-    ap (λ (xs : List ℕ). xs ++ rest) is ∙ append_assoc done (integer p.of_type v) rest ∙ ap (λ (xs : List ℕ). done ++ xs) (sym (integers_step ps vs i p v lp lv e f)) ∙ h
+    let here = integer (get_or ps i d).of_type (get_or vs i e) in
+    ap (λ (xs : List ℕ). xs ++ rest) (is ∙ ap (λ (t : IrType). done ++ integer t (get_or vs i e)) (sym of_type)) ∙ append_assoc done here rest ∙ ap (λ (xs : List ℕ). done ++ xs) (sym (integers_step ps vs i d e lp lv)) ∙ h
 
 no_integers_left : (ps : List Parameter) → integers ps [] ≡ []
 unfolding integers
@@ -31,13 +32,18 @@ unfolding integers
 no_integers_right [] = refl
 no_integers_right (v ∷ vs) = refl
 
-pub integers_end_left : (ps : List Parameter) (vs : List Value) (i : ℕ) (done : List ℕ) → length ps ≤ i → done ++ integers (drop i ps) (drop i vs) ≡ integers ps vs → done ≡ integers ps vs
-integers_end_left ps vs i done le h =
-    sym (append-nil done) ∙ ap (λ (xs : List ℕ). done ++ xs) (sym (ap (λ (qs : List Parameter). integers qs (drop i vs)) (drop_all i ps le) ∙ no_integers_right (drop i vs))) ∙ h
+pub integers_end : (ps : List Parameter) (vs : List Value) (i : ℕ) (done : List ℕ) → (length ps ≤ i) ⊎ (length vs ≤ i) → done ++ integers (drop i ps) (drop i vs) ≡ integers ps vs → done ≡ integers ps vs
+integers_end ps vs i done past h = sym (append-nil done) ∙ ap (λ (xs : List ℕ). done ++ xs) (sym (none past)) ∙ h
+  where
+    none : (length ps ≤ i) ⊎ (length vs ≤ i) → integers (drop i ps) (drop i vs) ≡ []
+    none (inl le) = ap (λ (qs : List Parameter). integers qs (drop i vs)) (drop_all i ps le) ∙ no_integers_right (drop i vs)
+    none (inr le) = ap (λ (ws : List Value). integers (drop i ps) ws) (drop_all i vs le) ∙ no_integers_left (drop i ps)
 
-pub integers_end_right : (ps : List Parameter) (vs : List Value) (i : ℕ) (done : List ℕ) → length vs ≤ i → done ++ integers (drop i ps) (drop i vs) ≡ integers ps vs → done ≡ integers ps vs
-integers_end_right ps vs i done le h =
-    sym (append-nil done) ∙ ap (λ (xs : List ℕ). done ++ xs) (sym (ap (λ (ws : List Value). integers (drop i ps) ws) (drop_all i vs le) ∙ no_integers_left (drop i ps))) ∙ h
+pub past_least : (a b i : ℕ) → min a b ≤ i → (a ≤ i) ⊎ (b ≤ i)
+past_least a b i le = elim (cases_lt a b) [
+  | inl lt ↦ inl (omega (arith, le, lt))
+  | inr ge ↦ inr (omega (arith, le, ge))
+]
 
 -- one number for each integer parameter
 counted_length : (t : IrType) (v : Value) (rest : List ℕ) (n : ℕ) → length rest ≡ n → length (integer t v ++ rest) ≡ counted t n
@@ -83,6 +89,11 @@ templates_end k count cs e first numbers tape long =
 
 -- ---- counting
 
-pub count_more : (ps : List Parameter) (i n : ℕ) (p : Parameter) → i < length ps → p ≡ get_or ps i p → n + integer_count (drop i ps) ≡ integer_count ps → n + counted p.of_type (integer_count (drop (i + 1) ps)) ≡ integer_count ps
+pub count_more : (ps : List Parameter) (i n m : ℕ) (p : Parameter) (t : IrType) → i < length ps → p ≡ get_or ps i p → p.of_type ≡ t → m + integer_count (drop (i + 1) ps) ≡ n + counted t (integer_count (drop (i + 1) ps))
+    → n + integer_count (drop i ps) ≡ integer_count ps → m + integer_count (drop (i + 1) ps) ≡ integer_count ps
 unfolding integer_count
-count_more ps i n p lt is h = (rw (drop_more ps i p lt, ← is) at h)
+count_more ps i n m p t lt is of_type step h = step ∙ ap (λ (t : IrType). n + counted t (integer_count (drop (i + 1) ps))) (sym of_type) ∙ (rw (drop_more ps i p lt, ← is) at h)
+
+pub count_end : (ps : List Parameter) (i n : ℕ) → length ps ≤ i → n + integer_count (drop i ps) ≡ integer_count ps → n ≡ integer_count ps
+unfolding integer_count
+count_end ps i n le h = let none : integer_count (drop i ps) ≡ 0 = ap integer_count (drop_all i ps le) in omega (arith, none, h)
