@@ -1,6 +1,8 @@
 -- The numbers of the integer arguments, and the words of a candidate.
 use Rattle.candidate_runs.proofs.Common.{ℕ, zero, suc, ◌≡◌, ◌<◌, ◌≤◌, ◌+◌, ◌⊎◌, inl, inr, min, cases_lt, List, [], ◌∷◌, ◌++◌, length, map, drop, take, get_or, refl, sym, ap, subst, ◌∙◌, arith, add-one, zero-add, append-nil, append_assoc, set, drop_more, drop_all, take_more, take_all, flat_map, slice_index, IrType, Parameter, Value, integer, integers, templates, words_of, AreTemplates, counted, function_of, integer_count, Candidate, Plus, Minus, Xor}
 use Rattle.ir_tree.specs.declared.tree.IrType.TheVariants as type
+use Rattle.byte_block.specs.declared.value.Value.TheVariants as value
+use Rattle.verdicts.specs.Covers.{number_or_0}
 use Rattle.std.proofs.Math.Seq.{take-suc-set}
 use Rattle.std.proofs.lemmas.List.FromFn.{map-range_with_len_more}
 
@@ -15,12 +17,20 @@ integers_step : (ps : List Parameter) (vs : List Value) (i : ℕ) (d : Parameter
 unfolding integers
 integers_step ps vs i d e lp lv = rw (drop_more ps i d lp, drop_more vs i e lv) refl
 
-pub integers_more : (ps : List Parameter) (vs : List Value) (i : ℕ) (d : Parameter) (e : Value) (t : IrType) (done after : List ℕ) → i < length ps → i < length vs → (get_or ps i d).of_type ≡ t → after ≡ done ++ integer t (get_or vs i e)
+integers_more : (ps : List Parameter) (vs : List Value) (i : ℕ) (d : Parameter) (e : Value) (t : IrType) (done after : List ℕ) → i < length ps → i < length vs → (get_or ps i d).of_type ≡ t → after ≡ done ++ integer t (get_or vs i e)
     → done ++ integers (drop i ps) (drop i vs) ≡ integers ps vs → after ++ integers (drop (i + 1) ps) (drop (i + 1) vs) ≡ integers ps vs
 integers_more ps vs i d e t done after lp lv of_type is h =
     let rest = integers (drop (i + 1) ps) (drop (i + 1) vs) in
     let here = integer (get_or ps i d).of_type (get_or vs i e) in
     ap (λ (xs : List ℕ). xs ++ rest) (is ∙ ap (λ (t : IrType). done ++ integer t (get_or vs i e)) (sym of_type)) ∙ append_assoc done here rest ∙ ap (λ (xs : List ℕ). done ++ xs) (sym (integers_step ps vs i d e lp lv)) ∙ h
+
+pub integers_int : (ps : List Parameter) (vs : List Value) (i : ℕ) (d : Parameter) (e : Value) (t : IrType) (done after : List ℕ) (m : ℕ) → i < length ps → i < length vs → (get_or ps i d).of_type ≡ t → integer t (get_or vs i e) ≡ number_or_0 (get_or vs i e) ∷ [] → m ≡ number_or_0 (get_or vs i e) → after ≡ done ++ m ∷ []
+    → done ++ integers (drop i ps) (drop i vs) ≡ integers ps vs → after ++ integers (drop (i + 1) ps) (drop (i + 1) vs) ≡ integers ps vs
+integers_int ps vs i d e t done after m lp lv of_type one n is h = integers_more ps vs i d e t done after lp lv of_type (is ∙ ap (λ x. done ++ x ∷ []) n ∙ ap (λ xs. done ++ xs) (sym one)) h
+
+pub integers_ptr : (ps : List Parameter) (vs : List Value) (i : ℕ) (d : Parameter) (done after : List ℕ) → i < length ps → i < length vs → (get_or ps i d).of_type ≡ type.Ptr → after ≡ done
+    → done ++ integers (drop i ps) (drop i vs) ≡ integers ps vs → after ++ integers (drop (i + 1) ps) (drop (i + 1) vs) ≡ integers ps vs
+integers_ptr ps vs i d done after lp lv of_type is h = integers_more ps vs i d value.Poison type.Ptr done after lp lv of_type (is ∙ sym (append-nil done)) h
 
 no_integers_left : (ps : List Parameter) → integers ps [] ≡ []
 unfolding integers
