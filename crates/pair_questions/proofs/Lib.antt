@@ -13,6 +13,7 @@ mod Moved
 mod Numbered
 mod Ordered
 mod SameTapes
+mod Integers
 mod Joining
 mod Listing
 mod Trying

@@ -32,9 +32,12 @@ pub fn integer_words(
 {
     let mut numbers = Vec::new(alloc);
     for arg in args {
-        if let ArgTerms::Int { number, .. } = arg {
-            let word = zext(terms, *number, WORD_WIDTH)?;
-            numbers.push(word)?;
+        match arg {
+            ArgTerms::Int { number, .. } => {
+                let word = zext(terms, *number, WORD_WIDTH)?;
+                numbers.push(word)?;
+            }
+            ArgTerms::Ptr { .. } => {}
         }
     }
     Ok(Sequence::from_vec(numbers))
