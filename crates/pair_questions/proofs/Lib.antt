@@ -13,6 +13,8 @@ mod Moved
 mod Numbered
 mod Ordered
 mod SameTapes
-mod Shifting
+mod Integers
+mod Joining
+mod Listing
 mod Trying
 mod Uncovering

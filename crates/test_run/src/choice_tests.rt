@@ -132,12 +132,13 @@ define i8 @f() {
 tv 2 turns 0 blocks 2 bytes 8 rounds 64 conflicts 0 weight 100000
 @f correct
 correct 1 incorrect 0 unknown 0 refused 0 signature 0 missing 0 extra 0
-=== fifteen of sixteen arguments take a round each
-tv check A B --rounds 15
+=== twelve of sixteen arguments take a round each where the choice has a factor
+tv check A B --rounds 12
 --- A
 define i4 @f(i4 %x) {
   %a = freeze i4 poison
-  %r = add i4 %x, %a
+  %b = mul i4 %a, 3
+  %r = add i4 %x, %b
   ret i4 %r
 }
 --- B
@@ -145,15 +146,16 @@ define i4 @f(i4 %x) {
   ret i4 0
 }
 --- 0
-tv 2 turns 4 blocks 2 bytes 8 rounds 15 conflicts 0 weight 100000
+tv 2 turns 4 blocks 2 bytes 8 rounds 12 conflicts 0 weight 100000
 @f correct
 correct 1 incorrect 0 unknown 0 refused 0 signature 0 missing 0 extra 0
-=== fourteen rounds are one too few
-tv check A B --rounds 14
+=== eleven rounds are one too few
+tv check A B --rounds 11
 --- A
 define i4 @f(i4 %x) {
   %a = freeze i4 poison
-  %r = add i4 %x, %a
+  %b = mul i4 %a, 3
+  %r = add i4 %x, %b
   ret i4 %r
 }
 --- B
@@ -161,7 +163,7 @@ define i4 @f(i4 %x) {
   ret i4 0
 }
 --- 2
-tv 2 turns 4 blocks 2 bytes 8 rounds 14 conflicts 0 weight 100000
+tv 2 turns 4 blocks 2 bytes 8 rounds 11 conflicts 0 weight 100000
 @f unknown rounds
 correct 0 incorrect 0 unknown 1 refused 0 signature 0 missing 0 extra 0
 ";
@@ -372,21 +374,40 @@ define i4 @f(i4 %x, i4 %y) {
 tv 2 turns 4 blocks 2 bytes 8 rounds 64 conflicts 0 weight 100000
 @f correct
 correct 1 incorrect 0 unknown 0 refused 0 signature 0 missing 0 extra 0
-=== a sum with undef is any number, which takes too many rounds
-tv check A B
+=== a sum with undef is any number: the choice minus the argument
+tv check A B --rounds 0
 --- A
-define i8 @f(i8 %x) {
-  %a = add i8 %x, undef
-  ret i8 %a
+define i32 @f(i32 %x) {
+  %r = add i32 %x, undef
+  ret i32 %r
 }
 --- B
-define i8 @f(i8 %x) {
-  ret i8 undef
+define i32 @f(i32 %x) {
+  ret i32 undef
 }
---- 2
-tv 2 turns 4 blocks 2 bytes 8 rounds 64 conflicts 0 weight 100000
-@f unknown rounds
-correct 0 incorrect 0 unknown 1 refused 0 signature 0 missing 0 extra 0
+--- 0
+tv 2 turns 4 blocks 2 bytes 8 rounds 0 conflicts 0 weight 100000
+@f correct
+correct 1 incorrect 0 unknown 0 refused 0 signature 0 missing 0 extra 0
+=== but undef is no sum with a poison argument
+tv check A B --rounds 0
+--- A
+define i32 @f(i32 %x) {
+  ret i32 undef
+}
+--- B
+define i32 @f(i32 %x) {
+  %r = add i32 %x, undef
+  ret i32 %r
+}
+--- 1
+tv 2 turns 4 blocks 2 bytes 8 rounds 0 conflicts 0 weight 100000
+@f incorrect
+  arg 0 = poison
+  choice 0 = 0
+  source returns 0
+  target returns poison
+correct 0 incorrect 1 unknown 0 refused 0 signature 0 missing 0 extra 0
 === a register that undef makes may not be branched on
 tv check A B
 --- A
@@ -441,6 +462,194 @@ tv 2 turns 0 blocks 2 bytes 8 rounds 64 conflicts 0 weight 41
 @f unknown weight
 correct 0 incorrect 0 unknown 1 refused 0 signature 0 missing 0 extra 0
 ";
+
+/// The source's choice is the target's plus, minus or xor an argument, or is not.
+const TEMPLATES: &str = "\
+a freeze is pushed through a sum
+tv check A B --rounds 0
+--- A
+define i32 @f(i32 %x) {
+  %a = freeze i32 poison
+  %r = add i32 %a, %x
+  ret i32 %r
+}
+--- B
+define i32 @f(i32 %x) {
+  %r = freeze i32 poison
+  ret i32 %r
+}
+--- 0
+tv 2 turns 4 blocks 2 bytes 8 rounds 0 conflicts 0 weight 100000
+@f correct
+correct 1 incorrect 0 unknown 0 refused 0 signature 0 missing 0 extra 0
+=== a freeze is pushed through a difference
+tv check A B --rounds 0
+--- A
+define i32 @f(i32 %x) {
+  %a = freeze i32 poison
+  %r = sub i32 %a, %x
+  ret i32 %r
+}
+--- B
+define i32 @f(i32 %x) {
+  %r = freeze i32 poison
+  ret i32 %r
+}
+--- 0
+tv 2 turns 4 blocks 2 bytes 8 rounds 0 conflicts 0 weight 100000
+@f correct
+correct 1 incorrect 0 unknown 0 refused 0 signature 0 missing 0 extra 0
+=== a freeze is pushed through an exclusive or
+tv check A B --rounds 0
+--- A
+define i32 @f(i32 %x) {
+  %a = freeze i32 poison
+  %r = xor i32 %a, %x
+  ret i32 %r
+}
+--- B
+define i32 @f(i32 %x) {
+  %r = freeze i32 poison
+  ret i32 %r
+}
+--- 0
+tv 2 turns 4 blocks 2 bytes 8 rounds 0 conflicts 0 weight 100000
+@f correct
+correct 1 incorrect 0 unknown 0 refused 0 signature 0 missing 0 extra 0
+=== a number absorbs a minuend
+tv check A B --rounds 0
+--- A
+define i32 @f(i32 %x) {
+  %a = freeze i32 poison
+  %r = sub i32 %a, %x
+  ret i32 %r
+}
+--- B
+define i32 @f(i32 %x) {
+  ret i32 0
+}
+--- 0
+tv 2 turns 4 blocks 2 bytes 8 rounds 0 conflicts 0 weight 100000
+@f correct
+correct 1 incorrect 0 unknown 0 refused 0 signature 0 missing 0 extra 0
+=== the argument may be any of the integers
+tv check A B --rounds 0
+--- A
+define i16 @f(ptr %p, i16 %x, i16 %y) {
+  %a = freeze i16 poison
+  %r = add i16 %a, %y
+  ret i16 %r
+}
+--- B
+define i16 @f(ptr %p, i16 %x, i16 %y) {
+  %r = freeze i16 poison
+  ret i16 %r
+}
+--- 0
+tv 2 turns 4 blocks 2 bytes 8 rounds 0 conflicts 0 weight 100000
+@f correct
+correct 1 incorrect 0 unknown 0 refused 0 signature 0 missing 0 extra 0
+=== a word is wider than what is read of it
+tv check A B --rounds 0
+--- A
+define i8 @f(i32 %x) {
+  %y = trunc i32 %x to i8
+  %a = freeze i8 poison
+  %r = add i8 %a, %y
+  ret i8 %r
+}
+--- B
+define i8 @f(i32 %x) {
+  %r = freeze i8 poison
+  ret i8 %r
+}
+--- 0
+tv 2 turns 4 blocks 2 bytes 8 rounds 0 conflicts 0 weight 100000
+@f correct
+correct 1 incorrect 0 unknown 0 refused 0 signature 0 missing 0 extra 0
+=== a subtrahend takes a round for each choice
+tv check A B --rounds 0
+--- A
+define i32 @f(i32 %x) {
+  %a = freeze i32 poison
+  %r = sub i32 %x, %a
+  ret i32 %r
+}
+--- B
+define i32 @f(i32 %x) {
+  %r = freeze i32 poison
+  ret i32 %r
+}
+--- 2
+tv 2 turns 4 blocks 2 bytes 8 rounds 0 conflicts 0 weight 100000
+@f unknown rounds
+correct 0 incorrect 0 unknown 1 refused 0 signature 0 missing 0 extra 0
+=== two arguments at once take rounds
+tv check A B --rounds 0
+--- A
+define i16 @f(i16 %x, i16 %y) {
+  %a = freeze i16 poison
+  %b = add i16 %a, %x
+  %r = add i16 %b, %y
+  ret i16 %r
+}
+--- B
+define i16 @f(i16 %x, i16 %y) {
+  %r = freeze i16 poison
+  ret i16 %r
+}
+--- 2
+tv 2 turns 4 blocks 2 bytes 8 rounds 0 conflicts 0 weight 100000
+@f unknown rounds
+correct 0 incorrect 0 unknown 1 refused 0 signature 0 missing 0 extra 0
+=== a factor is no choice
+tv check A B --rounds 0
+--- A
+define i32 @f(i32 %x) {
+  %a = freeze i32 poison
+  %r = mul i32 %a, %x
+  ret i32 %r
+}
+--- B
+define i32 @f(i32 %x) {
+  %r = freeze i32 poison
+  ret i32 %r
+}
+--- 1
+tv 2 turns 4 blocks 2 bytes 8 rounds 0 conflicts 0 weight 100000
+@f incorrect
+  arg 0 = 0
+  choice 0 = 1
+  source returns 0
+  target returns 1
+correct 0 incorrect 1 unknown 0 refused 0 signature 0 missing 0 extra 0
+=== no choice gives the poison of an argument
+tv check A B --rounds 0
+--- A
+define i32 @f(i32 %x) {
+  %r = freeze i32 poison
+  ret i32 %r
+}
+--- B
+define i32 @f(i32 %x) {
+  %a = freeze i32 poison
+  %r = add i32 %a, %x
+  ret i32 %r
+}
+--- 1
+tv 2 turns 4 blocks 2 bytes 8 rounds 0 conflicts 0 weight 100000
+@f incorrect
+  arg 0 = poison
+  choice 0 = 0
+  source returns 0
+  target returns poison
+correct 0 incorrect 1 unknown 0 refused 0 signature 0 missing 0 extra 0
+";
+
+#[test]
+fn choices_are_made_of_the_targets_and_an_argument(rt: HostRuntime) -> Result<(), Fail> {
+    are_answered(&rt, TEMPLATES)
+}
 
 #[test]
 fn choices_are_covered_or_shown(rt: HostRuntime) -> Result<(), Fail> {

@@ -280,3 +280,122 @@ correct 1 incorrect 0 unknown 0 refused 0 signature 0 missing 0 extra 0
 fn alignments_are_covered_or_shown(rt: HostRuntime) -> Result<(), Fail> {
     are_answered(&rt, ALIGNMENTS)
 }
+
+/// Accesses of integers that fill no whole number of bytes: the bits past the width, and bits of poison.
+const BITS: &str = "\
+poison in four bits may become any of their values
+tv check A B
+--- A
+define void @f(ptr %p) {
+  store i4 poison, ptr %p
+  ret void
+}
+--- B
+define void @f(ptr %p) {
+  store i4 0, ptr %p
+  ret void
+}
+--- 0
+tv 2 turns 4 blocks 2 bytes 8 rounds 64 conflicts 0 weight 100000
+@f correct
+correct 1 incorrect 0 unknown 0 refused 0 signature 0 missing 0 extra 0
+=== the bits past the width are 0, and not poison
+tv check A B
+--- A
+define void @f(ptr %p) {
+  store i4 poison, ptr %p
+  ret void
+}
+--- B
+define void @f(ptr %p) {
+  store i8 16, ptr %p
+  ret void
+}
+--- 1
+tv 2 turns 4 blocks 2 bytes 8 rounds 64 conflicts 0 weight 100000
+@f incorrect
+  arg 0 = given1+0
+  block 1 = 00
+  source returns void
+  source block 1 = 00~0f
+  target returns void
+  target block 1 = 10
+correct 0 incorrect 1 unknown 0 refused 0 signature 0 missing 0 extra 0
+=== a byte that is no i1 is loaded as poison, which its lowest bit may replace
+tv check A B
+--- A
+define i1 @f(ptr %p) {
+  %r = load i1, ptr %p
+  ret i1 %r
+}
+--- B
+define i1 @f(ptr %p) {
+  %b = load i8, ptr %p
+  %r = trunc i8 %b to i1
+  ret i1 %r
+}
+--- 0
+tv 2 turns 4 blocks 2 bytes 8 rounds 64 conflicts 0 weight 100000
+@f correct
+correct 1 incorrect 0 unknown 0 refused 0 signature 0 missing 0 extra 0
+=== the lowest bit of a byte may not become a load of i1
+tv check A B
+--- A
+define i1 @f(ptr %p) {
+  %b = load i8, ptr %p
+  %r = trunc i8 %b to i1
+  ret i1 %r
+}
+--- B
+define i1 @f(ptr %p) {
+  %r = load i1, ptr %p
+  ret i1 %r
+}
+--- 1
+tv 2 turns 4 blocks 2 bytes 8 rounds 64 conflicts 0 weight 100000
+@f incorrect
+  arg 0 = given1+0
+  block 1 = 02
+  source returns 0
+  source block 1 = 02
+  target returns poison
+  target block 1 = 02
+correct 0 incorrect 1 unknown 0 refused 0 signature 0 missing 0 extra 0
+=== an i24 takes four bytes of an array
+tv check A B
+--- A
+define ptr @f(ptr %p) {
+  %r = getelementptr i24, ptr %p, i64 1
+  ret ptr %r
+}
+--- B
+define ptr @f(ptr %p) {
+  %r = getelementptr i8, ptr %p, i64 4
+  ret ptr %r
+}
+--- 0
+tv 2 turns 4 blocks 2 bytes 8 rounds 64 conflicts 0 weight 100000
+@f correct
+correct 1 incorrect 0 unknown 0 refused 0 signature 0 missing 0 extra 0
+=== four bytes are an i24
+tv check A B
+--- A
+define ptr @f(ptr %p) {
+  %r = getelementptr i8, ptr %p, i64 4
+  ret ptr %r
+}
+--- B
+define ptr @f(ptr %p) {
+  %r = getelementptr i24, ptr %p, i64 1
+  ret ptr %r
+}
+--- 0
+tv 2 turns 4 blocks 2 bytes 8 rounds 64 conflicts 0 weight 100000
+@f correct
+correct 1 incorrect 0 unknown 0 refused 0 signature 0 missing 0 extra 0
+";
+
+#[test]
+fn bits_past_a_width_are_told_from_poison(rt: HostRuntime) -> Result<(), Fail> {
+    are_answered(&rt, BITS)
+}

@@ -1,0 +1,73 @@
+-- Candidates that leave the list of those that are not in the goal, and join the goal.
+use Rattle.pair_questions.proofs.Common.{ℕ, ◌≡◌, ◌<◌, ◌+◌, Bool, true, false, ◌||◌, List, [], ◌∷◌, ◌++◌, length, take, drop, get_or, append-nil, refl, ap, sym, subst, ◌∙◌, arith, suc, length-append, length-drop, length-take-le, Bounds, Point, RunPair, IsPoint, covers, some_covers, tried, Candidate, SHIFTS, AreTemplates, NoneCovers, integer_count, tape_of, tapes_of, tried_split, AreAllCandidates, IsQuestionOf, IfSome, Option, Some, None}
+use Rattle.std.specs.Prelude.{remove}
+use Rattle.points.proofs.Args.{ArgsFit-length}
+use Rattle.candidate_runs.proofs.Tried.{tapes_append, taken_out}
+use Rattle.pair_questions.specs.declared.point_question.PointQuestion.{PointQuestion}
+use Rattle.pair_questions.specs.declared.subject.Subject.{Subject}
+
+or_assoc : (a b c : Bool) → (a || (b || c)) ≡ ((a || b) || c)
+or_assoc true b c = refl
+or_assoc false b c = refl
+
+or_none : (a : Bool) → (a || false) ≡ a
+or_none true = refl
+or_none false = refl
+
+-- the candidate was one of a list, and the others are left
+record IsTaken (pair : RunPair) (bounds : Bounds) (old new : List Candidate) (c : Candidate) : Type 0 where
+  pub count : length new + 1 ≡ length old
+  pub same : (p : Point) → some_covers pair bounds p (tapes_of pair bounds p old) ≡ (covers pair bounds p (tape_of pair bounds p c) || some_covers pair bounds p (tapes_of pair bounds p new))
+
+module _ (pair : RunPair) (bounds : Bounds) where
+  -- the shifts and the templates
+  pub all_at_first : (left : List Candidate) → AreTemplates (integer_count pair.target.parameters) left → AreAllCandidates pair bounds SHIFTS left
+  all_at_first left are p h = tried_split pair bounds p left are (ArgsFit-length _ pair.target.parameters p.input.args h.args)
+
+  -- the goal has all of them
+  pub all_joined : (front left none : List Candidate) → none ≡ [] → AreAllCandidates pair bounds front left → AreAllCandidates pair bounds (front ++ left) none
+  unfolding some_covers
+  all_joined front left none e all p h =
+      all p h ∙ sym (tapes_append pair bounds p front left) ∙ sym (or_none (some_covers pair bounds p (tapes_of pair bounds p (front ++ left))))
+      ∙ ap (λ (cs : List Candidate). some_covers pair bounds p (tapes_of pair bounds p (front ++ left)) || some_covers pair bounds p (tapes_of pair bounds p cs)) (sym e)
+
+  one_of : (p : Point) (c : Candidate) → some_covers pair bounds p (tapes_of pair bounds p (c ∷ [])) ≡ covers pair bounds p (tape_of pair bounds p c)
+  unfolding some_covers
+  one_of p c = or_none (covers pair bounds p (tape_of pair bounds p c))
+
+  -- or one more of them
+  one_joined : (front old new : List Candidate) (c : Candidate) → IsTaken pair bounds old new c → AreAllCandidates pair bounds front old → AreAllCandidates pair bounds (front ++ c ∷ []) new
+  one_joined front old new c taken all p h =
+      let F = some_covers pair bounds p (tapes_of pair bounds p front) in
+      let N = some_covers pair bounds p (tapes_of pair bounds p new) in
+      let C = covers pair bounds p (tape_of pair bounds p c) in
+      all p h ∙ ap (λ b. F || b) (taken.same p) ∙ or_assoc F C N
+      ∙ ap (λ b. b || N) (ap (λ b. F || b) (sym (one_of p c)) ∙ sym (tapes_append pair bounds p front (c ∷ [])))
+
+  is_taken : (old new : List Candidate) (i : ℕ) (c : Candidate) → i < length old → c ≡ get_or old i c → new ≡ remove old i → length new + 1 ≡ length old → IsTaken pair bounds old new c
+  is_taken old new i c lt is e count = record { count = count; same = λ p. rw e (taken_out pair bounds p old i c lt is) }
+
+  pub none_left : (p : Point) (cs : List Candidate) → cs ≡ [] → NoneCovers pair bounds p cs
+  unfolding some_covers
+  none_left p cs e = rw e refl
+
+  pub taken_joined : (front old new : List Candidate) (i : ℕ) (c : Candidate) → i < length old → c ≡ get_or old i c → new ≡ remove old i → length new + 1 ≡ length old → AreAllCandidates pair bounds front old → AreAllCandidates pair bounds (front ++ c ∷ []) new
+  taken_joined front old new i c lt is e count all = one_joined front old new c (is_taken old new i c lt is e count) all
+
+-- ---- under a limit none is left
+
+pub whole_of : (limit : Option ℕ) (left : List Candidate) → IfSome limit (λ n. 0 < n) → left ≡ [] → IfSome limit (λ n. (0 < n) × (left ≡ []))
+whole_of None left h e = tt
+whole_of (Some n) left h e = (h, e)
+
+pub whole_none : (limit : Option ℕ) (left : List Candidate) → limit ≡ None → IfSome limit (λ n. (0 < n) × (left ≡ []))
+whole_none limit left e = rw e tt
+
+pub whole_less : (limit : Option ℕ) (old new : List Candidate) → IfSome limit (λ n. (0 < n) × (old ≡ [])) → length new + 1 ≡ length old → IfSome limit (λ n. (0 < n) × (new ≡ []))
+whole_less None old new h count = tt
+whole_less (Some n) old new h count = let none : length old ≡ 0 = ap length h.1 in absurd (omega (arith, none, count))
+
+-- ---- the goal knows nothing of the others
+
+pub question_left : (s : Subject) (front : List Candidate) (q r : PointQuestion) → r ≡ record q { left = r.left } → IsQuestionOf s front q → IsQuestionOf s front r
+question_left s front q r e h = rw e (record { of = h.of; ids = h.ids; order = h.order; widths = h.widths; goal = h.goal })
