@@ -4,8 +4,11 @@
 //! condition is true, the number of the quotient does not matter.
 
 ghost use Rattle.std.specs.Prelude.{◌≡◌, ◌⊎◌, ◌<◌, ◌≤◌, ◌*◌, ◌^◌, ℕ, IfOk, IfSome, IsTrue, false, length};
+ghost use Rattle.bv_terms.specs.declared.term.BinaryOp.TheVariants as op;
+ghost use Rattle.bv_terms.specs.Tree as tree;
 ghost use Rattle.bv_terms.specs.Tree.{quotient, remainder, shifted_right, width_of};
 ghost use Rattle.bv_terms.specs.Trees.{IsTerm, Keeps, bit_at, term_at, tree_in};
+ghost use Rattle.known_values.specs.Weight.{weight_of};
 ghost use Rattle.term_rules.specs.Wrapping.{AreEqualWhereFalse, IsExactFactor, IsExactShift, IsKept, IsPlain, IsRestWhere};
 
 use crate::builders::{constant, shl, udiv, urem};
@@ -367,6 +370,7 @@ pub fn udiv_where(
     ensures made { IfOk result (IsTerm terms.new (width_of (tree_in terms.old a))) }
     ensures says { IfOk result (λ id. (v : ℕ → ℕ → ℕ) → bit_at v terms.old poison ≡ false → 1 ≤ term_at v terms.old b
         → term_at v terms.new id ≡ quotient (width_of (tree_in terms.old a)) (term_at v terms.old a) (term_at v terms.old b)) }
+    ensures least { IfOk result (λ id. weight_of (tree_in terms.new id) ≤ weight_of (tree.Binary op.Udiv (tree_in terms.old a) (tree_in terms.old b) (width_of (tree_in terms.old a)))) }
     ensures kept { Keeps terms.old terms.new }
 {
     terms.values_fit();
@@ -396,6 +400,7 @@ pub fn urem_where(
     ensures made { IfOk result (IsTerm terms.new (width_of (tree_in terms.old a))) }
     ensures says { IfOk result (λ id. (v : ℕ → ℕ → ℕ) → bit_at v terms.old poison ≡ false
         → term_at v terms.new id ≡ remainder (term_at v terms.old a) (term_at v terms.old b)) }
+    ensures least { IfOk result (λ id. weight_of (tree_in terms.new id) ≤ weight_of (tree.Binary op.Urem (tree_in terms.old a) (tree_in terms.old b) (width_of (tree_in terms.old a)))) }
     ensures kept { Keeps terms.old terms.new }
 {
     terms.values_fit();
