@@ -248,9 +248,6 @@ block_numbered v terms [] = refl
 block_numbered v terms (b ∷ rest) =
     ap (λ ns. term_at v terms b.kind ∷ term_at v terms b.mask ∷ term_at v terms b.number ∷ term_at v terms b.block ∷ term_at v terms b.offset ∷ term_at v terms b.part ∷ ns) (block_numbered v terms rest)
 
-joined : (a b c d : List ℕ) → a ≡ b → c ≡ d → (a ++ c) ≡ (b ++ d)
-joined a b c d e f = cc
-
 blocks_numbered : (v : ℕ → ℕ → ℕ) (terms : List Term) (places : List (List ByteTerms)) → map (term_at v terms) (flat_map (flat_map byte_ids) places) ≡ flat_map (block_numbers v terms) places
 blocks_numbered v terms [] = refl
 blocks_numbered v terms (x ∷ rest) =

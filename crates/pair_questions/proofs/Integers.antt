@@ -5,6 +5,12 @@ use Rattle.mem_terms.specs.declared.inputs.ArgTerms.TheVariants as arg
 use Rattle.refine_terms.specs.Deciding.{IsNarrow}
 use Rattle.pair_questions.proofs.Extending.{flat_map_push}
 
+-- the argument at an index, whatever stands for one outside the list
+pub arg_at : (args : List ArgTerms) (i : ℕ) (other a : ArgTerms) → i < length args → get_or args i other ≡ a → a ≡ get_or args i a
+arg_at [] i other a lt e = absurd (omega (arith, lt))
+arg_at (x ∷ xs) zero other a lt e = sym e
+arg_at (x ∷ xs) (suc i) other a lt e = arg_at xs i other a (omega (arith, lt)) e
+
 -- an integer argument has at most 64 bits
 pub int_there : (terms : List Term) (ps : List Parameter) (args : List ArgTerms) (i : ℕ) (flag number : TermId) → AreArgs terms ps args → i < length args → arg.Int flag number ≡ get_or args i (arg.Int flag number) → IsNarrow terms number
 int_there terms ps [] i flag number h lt e = absurd (omega (arith, lt))

@@ -1,8 +1,12 @@
 -- Candidates that leave the list of those that are not in the goal, and join the goal.
-use Rattle.pair_questions.proofs.Common.{ℕ, ◌≡◌, ◌<◌, ◌+◌, Bool, true, false, ◌||◌, List, [], ◌∷◌, ◌++◌, length, take, drop, get_or, append-nil, refl, ap, sym, subst, ◌∙◌, arith, suc, length-append, length-drop, length-take-le, Bounds, Point, RunPair, IsPoint, covers, some_covers, tried, Candidate, SHIFTS, AreTemplates, NoneCovers, integer_count, tape_of, tapes_of, tried_split, AreAllCandidates, IsQuestionOf, IfSome, Option, Some, None}
+use Rattle.pair_questions.proofs.Common.{ℕ, ◌≡◌, ◌<◌, ◌+◌, Bool, true, false, ◌||◌, List, [], ◌∷◌, ◌++◌, length, take, drop, get_or, append-nil, refl, ap, sym, subst, ◌∙◌, arith, suc, length-append, length-drop, length-take-le, Bounds, Point, RunPair, IsPoint, covers, some_covers, tried, Candidate, SHIFTS, AreTemplates, NoneCovers, integer_count, tape_of, tapes_of, tried_split, AreAllCandidates, IsQuestionOf, IfSome, Option, Some, None, IsPointQuestion, IsFoundMissed, IsFoundPoint, IsLeastMissed, IsLeastUncovered}
 use Rattle.std.specs.Prelude.{remove}
 use Rattle.points.proofs.Args.{ArgsFit-length}
+use Rattle.clause_log.specs.declared.step.Cert.{Cert}
 use Rattle.candidate_runs.proofs.Tried.{tapes_append, taken_out}
+use Rattle.pair_questions.proofs.Findings.{least_of_all}
+use Rattle.pair_questions.specs.declared.found.Found.{Found}
+use Rattle.pair_questions.specs.declared.found.Found.TheVariants as found
 use Rattle.pair_questions.specs.declared.point_question.PointQuestion.{PointQuestion}
 use Rattle.pair_questions.specs.declared.subject.Subject.{Subject}
 
@@ -71,3 +75,20 @@ whole_less (Some n) old new h count = let none : length old ≡ 0 = ap length h.
 
 pub question_left : (s : Subject) (front : List Candidate) (q r : PointQuestion) → r ≡ record q { left = r.left } → IsQuestionOf s front q → IsQuestionOf s front r
 question_left s front q r e h = rw e (record { of = h.of; ids = h.ids; order = h.order; widths = h.widths; goal = h.goal })
+
+-- ---- what is found of the goal, where no candidate outside it covers the point
+
+module _ (s : Subject) (q : PointQuestion) where
+  pub least_found : (r : PointQuestion) (h : IsPointQuestion s q) (f : Found Point) (p : Point) → f ≡ found.Least p → IsFoundMissed s.pair.now s.bounds.now h.front q.tapes q.limit f
+      → NoneCovers s.pair.now s.bounds.now p q.left.items × (r ≡ q) → IsLeastUncovered s.pair.now s.bounds.now r.tapes p
+  least_found r h f p e there none =
+      let missed : IsLeastMissed s.pair.now s.bounds.now h.front q.tapes p = rw e at there in
+      subst (λ (t : PointQuestion). IsLeastUncovered s.pair.now s.bounds.now t.tapes p) (sym none.1) (least_of_all s.pair.now s.bounds.now h.front q.left.items q.tapes h.all p none.0 missed)
+
+  pub none_found : (h : IsPointQuestion s q) (f : Found Point) (cert : Cert) → f ≡ found.None cert → IsFoundMissed s.pair.now s.bounds.now h.front q.tapes q.limit f
+      → IsFoundPoint s.pair.now s.bounds.now q.tapes q.limit (found.None cert)
+  none_found h f cert e there = rw e at there
+
+  pub spent_found : (h : IsPointQuestion s q) (f : Found Point) (cert : Cert) → f ≡ found.Spent cert → IsFoundMissed s.pair.now s.bounds.now h.front q.tapes q.limit f
+      → IsFoundPoint s.pair.now s.bounds.now q.tapes q.limit (found.Spent cert)
+  spent_found h f cert e there = rw e at there

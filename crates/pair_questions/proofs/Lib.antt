@@ -16,5 +16,6 @@ mod SameTapes
 mod Integers
 mod Joining
 mod Listing
+mod Missed
 mod Trying
 mod Uncovering

@@ -1,6 +1,12 @@
 -- The tapes so far are those of the candidates so far.
-use Rattle.pair_questions.proofs.Common.{ℕ, ◌≡◌, ◌<◌, ◌+◌, List, [], ◌∷◌, ◌++◌, length, map, take, get_or, Contains, ap, sym, subst, ◌∙◌, words_of, TermId, Term, Keeps, TapeTerms, AreWords, words_at, map-push, map-take, words_at-later, Candidate, function_of, AreSameTapes, AreTapes, tapes_at, words_of_each}
+use Rattle.pair_questions.proofs.Common.{ℕ, zero, suc, ◌≡◌, ◌<◌, ◌+◌, List, [], ◌∷◌, ◌++◌, length, map, take, get_or, Contains, refl, ap, sym, subst, ◌∙◌, words_of, TermId, Term, Keeps, TapeTerms, AreWords, words_at, arith, map-push, map-take, words_at-later, Candidate, function_of, AreSameTapes, AreTapes, tapes_at, words_of_each}
 use Rattle.pair_questions.proofs.SameTapes.{same_more, same_seen, tapes_at-later, words_among}
+
+-- the candidate at an index, whatever stands for one outside the list
+pub candidate_at : (cs : List Candidate) (i : ℕ) (other : Candidate) → i < length cs → get_or cs i other ≡ get_or cs i (get_or cs i other)
+candidate_at [] i other lt = absurd (omega (arith, lt))
+candidate_at (x ∷ xs) zero other lt = refl
+candidate_at (x ∷ xs) (suc i) other lt = candidate_at xs i other (omega (arith, lt))
 
 module _ (old before mid : List Term) (need i : ℕ) (numbers words : List TermId) (cs : List Candidate) (c : Candidate) (tapes more : List TapeTerms) (tape : TapeTerms) (first : Keeps old before) (k : Keeps before mid)
     (are_numbers : AreWords old numbers) (are : AreWords old words) (so : AreTapes before tapes) (lt : i < length cs) (is : c ≡ get_or cs i c)

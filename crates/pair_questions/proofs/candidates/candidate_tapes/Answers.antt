@@ -1,6 +1,6 @@
 use Rattle.pair_questions.proofs.Common.{◌≡◌, List, [], ◌∷◌, ◌++◌, refl, sym, subst, TapeTerms, AreWords, each-push, keeps_trans, words-later, AreTapes}
 use Rattle.pair_questions.proofs.SameTapes.{tapes-later}
-use Rattle.pair_questions.proofs.Listing.{tape_new, tape_seen}
+use Rattle.pair_questions.proofs.Listing.{candidate_at, tape_new, tape_seen}
 use Rattle.pair_questions.proofs.candidates.candidate_tapes.Goals as goal
 use Rattle.pair_questions.proofs.candidates.candidate_tapes.Goals.{then-not-has_tape+in_ok-push, else-not-has_tape}
 
@@ -27,8 +27,8 @@ loop-candidate-preserved c =
           record {
             kept = keeps_trans old before mid first k;
             are = subst (λ (ts : List TapeTerms). AreTapes mid ts) (sym pushed) (each-push (λ (t : TapeTerms). AreWords mid t.words) tapes tape are c.in_ok-tape.ensures.are);
-            same = λ v. tape_new old before mid c.args.need c.loop-candidate.candidate-index c.args.numbers.now c.args.words.now c.args.candidates.now c.candidate-item.result tapes more tape first k
-                c.requires.numbers c.requires.words c.loop-candidate.invariant.are c.loop-candidate-test.true c.candidate-item.is c.in_ok-tape.ensures.stands pushed v (c.loop-candidate.invariant.same v);
+            same = λ v. tape_new old before mid c.args.need c.loop-candidate.candidate-index c.args.numbers.now c.args.words.now c.args.candidates.now _ tapes more tape first k
+                c.requires.numbers c.requires.words c.loop-candidate.invariant.are c.loop-candidate-test.true (candidate_at c.args.candidates.now c.loop-candidate.candidate-index _ c.loop-candidate-test.true) c.in_ok-tape.ensures.stands pushed v (c.loop-candidate.invariant.same v);
           }
       | else-not-has_tape w ↦
           let left : more ≡ tapes = rw w.tapes-is refl in
@@ -36,7 +36,7 @@ loop-candidate-preserved c =
           record {
             kept = keeps_trans old before mid first k;
             are = subst (λ (ts : List TapeTerms). AreTapes mid ts) (sym left) are;
-            same = λ v. tape_seen old before mid c.args.need c.loop-candidate.candidate-index c.args.numbers.now c.args.words.now c.args.candidates.now c.candidate-item.result tapes more tape first k
-                c.requires.numbers c.requires.words c.loop-candidate.invariant.are c.loop-candidate-test.true c.candidate-item.is c.in_ok-tape.ensures.stands left seen v (c.loop-candidate.invariant.same v);
+            same = λ v. tape_seen old before mid c.args.need c.loop-candidate.candidate-index c.args.numbers.now c.args.words.now c.args.candidates.now _ tapes more tape first k
+                c.requires.numbers c.requires.words c.loop-candidate.invariant.are c.loop-candidate-test.true (candidate_at c.args.candidates.now c.loop-candidate.candidate-index _ c.loop-candidate-test.true) c.in_ok-tape.ensures.stands left seen v (c.loop-candidate.invariant.same v);
           }
     ]

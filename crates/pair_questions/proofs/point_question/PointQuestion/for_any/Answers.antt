@@ -21,7 +21,7 @@ returns-clause-question c =
     let order = c.point_terms.new.order.items in
     let are = c.in_ok-of.ensures.terms in
     let widths = c.from_vec-3.ensures ∙ counted one order c.as_slice.result.now (point_widths pair bounds) c.in_ok-widths.widths.items c.in_ok-widths.ensures.fit c.in_ok-of.ensures.order c.as_slice.ensures.value c.in_ok-widths.ensures.widths in
-    let none = c.from_vec.ensures ∙ c.new-4.ensures.items in
+    let none = c.from_vec.ensures ∙ c.new.ensures.items in
     record {
       of = point_terms-later s one two of k are;
       ids = c.from_vec-2.ensures ∙ c.in_ok-of.ensures.ids;
