@@ -1,6 +1,10 @@
 -- Candidates that leave the list of those that are not in the goal, and join the goal.
-use Rattle.pair_questions.proofs.Common.{ℕ, ◌≡◌, ◌<◌, ◌+◌, Bool, true, false, ◌||◌, List, [], ◌∷◌, ◌++◌, length, take, drop, get_or, append-nil, refl, ap, sym, subst, ◌∙◌, arith, suc, length-append, length-drop, length-take-le, Bounds, Point, RunPair, IsPoint, covers, some_covers, tried, Candidate, SHIFTS, AreTemplates, NoneCovers, integer_count, tape_of, tapes_of, tried_split, AreAllCandidates, IsQuestionOf, IfSome, Option, Some, None, IsPointQuestion, IsFoundMissed, IsFoundPoint, IsLeastMissed, IsLeastUncovered}
-use Rattle.std.specs.Prelude.{remove}
+use Rattle.pair_questions.proofs.Common.{ℕ, ◌≡◌, ◌<◌, ◌+◌, Bool, true, false, ◌||◌, List, [], ◌∷◌, ◌++◌, length, take, drop, get_or, append-nil, refl, ap, sym, subst, ◌∙◌, arith, suc, length-append, length-drop, length-take-le, Bounds, Point, RunPair, IsPoint, covers, some_covers, tried, Candidate, SHIFTS, AreTemplates, NoneCovers, CoversAt, integer_count, tape_of, tapes_of, tried_split, AreAllCandidates, IsQuestionOf, IfSome, Option, Some, None, IsPointQuestion, IsFoundMissed, IsFoundPoint, IsLeastMissed, IsLeastUncovered}
+use Rattle.std.specs.Prelude.{Err, IfOk, IsTrue, MatchOption, Ok, OnOk, Result, is_some, remove}
+use Rattle.std.specs.Global.{Global, Vec}
+use Rattle.std.proofs.lemmas.Option.{slice_get_within}
+use Rattle.core.specs.Result.{result_and}
+use Rattle.support.specs.declared.no_memory.NoMemory.{NoMemory}
 use Rattle.points.proofs.Args.{ArgsFit-length}
 use Rattle.clause_log.specs.declared.step.Cert.{Cert}
 use Rattle.candidate_runs.proofs.Tried.{tapes_append, taken_out}
@@ -71,10 +75,40 @@ pub whole_less : (limit : Option ℕ) (old new : List Candidate) → IfSome limi
 whole_less None old new h count = tt
 whole_less (Some n) old new h count = let none : length old ≡ 0 = ap length h.1 in absurd (omega (arith, none, count))
 
+pub not_some : (limit : Option ℕ) → is_some limit ≡ false → limit ≡ None
+not_some None e = refl
+not_some (Some n) e = absurd (let z : ⊥ = cc in z)
+
 -- ---- the goal knows nothing of the others
 
 pub question_left : (s : Subject) (front : List Candidate) (q r : PointQuestion) → r ≡ record q { left = r.left } → IsQuestionOf s front q → IsQuestionOf s front r
 question_left s front q r e h = rw e (record { of = h.of; ids = h.ids; order = h.order; widths = h.widths; goal = h.goal })
+
+-- ---- one that covers the point joins
+
+pub found_within : (pair : RunPair) (bounds : Bounds) (p : Point) (seen left : List Candidate) (f : Option ℕ) (i : ℕ) → seen ≡ left → f ≡ Some i
+    → MatchOption f (NoneCovers pair bounds p seen) (CoversAt pair bounds p seen) → i < length left
+found_within pair bounds p seen left f i same is found =
+    let there : CoversAt pair bounds p left i = rw (same, is) at found in
+    slice_get_within left i there.candidate there.there
+
+pub widened : (s : Subject) (q new : PointQuestion) (left : Vec Candidate) (i : ℕ) (c : Candidate) → IsPointQuestion s q → i < length q.left.items → c ≡ get_or q.left.items i c
+    → left.items ≡ remove q.left.items i → length left.items + 1 ≡ length q.left.items → new.left ≡ left → new.limit ≡ q.limit
+    → ((front : List Candidate) → IsQuestionOf s front (record q { left = left }) → IsQuestionOf s (front ++ c ∷ []) new) → IsPointQuestion s new × (length new.left.items < length q.left.items)
+widened s q new left i c h lt is gone count same limit joined =
+    let taken : new.left.items ≡ remove q.left.items i = ap (λ (l : Vec Candidate). l.items) same ∙ gone in
+    let fewer : length new.left.items + 1 ≡ length q.left.items = ap (λ (l : Vec Candidate). length l.items + 1) same ∙ count in
+    ((record {
+      front = h.front ++ c ∷ [];
+      question = joined h.front (question_left s h.front q (record q { left = left }) refl h.question);
+      all = taken_joined s.pair.now s.bounds.now h.front q.left.items new.left.items i c lt is taken fewer h.all;
+      whole = subst (λ (l : Option ℕ). IfSome l (λ n. (0 < n) × (new.left.items ≡ []))) (sym limit) (whole_less q.limit q.left.items new.left.items h.whole fewer);
+    }), (omega (arith, fewer)))
+
+-- what holds where the join is Ok holds where the answer is
+pub where_joined : (join : Result (Unit {0}) NoMemory) (both : Result Bool NoMemory) (Q P : Type 0) → both ≡ result_and join (Ok true) → OnOk join Q → (Q → P) → IfOk both (λ b. IsTrue b → P)
+where_joined (Ok u) both Q P e q h = rw e (λ _. h q)
+where_joined (Err x) both Q P e q h = rw e tt
 
 -- ---- what is found of the goal, where no candidate outside it covers the point
 
