@@ -22,9 +22,9 @@ pub fn left(terms: &Terms, a: TermId, b: TermId) -> Form
     terms.values_fit();
     let width = terms.width(a);
     match number(terms, b) {
-        // SHIFT X, 0 --> X
+        // shl X, 0 --> X
         Some(count) if count == 0 => Form::Known(a),
-        // SHIFT X, C --> 0, if C >= width (a term is never poison)
+        // shl X, C --> 0, if C >= width (a term is never poison)
         Some(count) if count >= width as u128 => Form::Built(Term::Constant { value: 0, width }),
         _ => Form::Built(Term::Binary(BinaryOp::Shl, a, b, width)),
     }
@@ -39,9 +39,9 @@ pub fn logical_right(terms: &Terms, a: TermId, b: TermId) -> Form
 {
     let width = terms.width(a);
     match number(terms, b) {
-        // SHIFT X, 0 --> X
+        // lshr X, 0 --> X
         Some(count) if count == 0 => Form::Known(a),
-        // SHIFT X, C --> 0, if C >= width (a term is never poison)
+        // lshr X, C --> 0, if C >= width (a term is never poison)
         Some(count) if count >= width as u128 => Form::Built(Term::Constant { value: 0, width }),
         _ => Form::Built(Term::Binary(BinaryOp::Lshr, a, b, width)),
     }
@@ -61,7 +61,7 @@ pub fn arithmetic_right(terms: &Terms, a: TermId, b: TermId) -> Form
         return logical_right(terms, a, b);
     }
     match number(terms, b) {
-        // SHIFT X, 0 --> X
+        // ashr X, 0 --> X
         Some(count) if count == 0 => Form::Known(a),
         _ => Form::Built(Term::Binary(BinaryOp::Ashr, a, b, width)),
     }
