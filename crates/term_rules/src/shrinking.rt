@@ -23,7 +23,7 @@ pub struct Shrunk {
 }
 
 /// The term that was widened with zeros to this one.
-// zext X --> X
+// X of zext X
 pub fn before_widening(terms: &Terms, a: TermId) -> Option<TermId>
     requires { a.index < length terms.now }
     ensures { IfSome result (IsWidened terms.now a) }
@@ -118,7 +118,7 @@ pub fn rest_of_ones(terms: &Terms, a: TermId, b: TermId) -> Option<TermId>
 }
 
 /// The inverse of a term, widened.
-// X --> zext (xor X, -1)
+// zext (xor X, -1)
 pub fn widened_inverse(terms: &mut Terms, a: TermId, width: u32) -> Result<TermId, NoMemory>
     requires a { a.index < length terms.old }
     requires least { width_of (tree_in terms.old a) ≤ width }
@@ -237,7 +237,7 @@ pub fn are_equal(terms: &mut Terms, pair: Shrunk) -> Result<TermId, NoMemory>
 
 /// Whether the first is less.
 // icmp ult (zext X), (zext Y) --> icmp ult X, Y
-// icmp slt (zext X), (zext Y) --> icmp ult X, Y, if X was widened
+// icmp slt (zext X), (zext Y) --> icmp ult X, Y, if X is narrower than the zext
 pub fn is_less(terms: &mut Terms, pair: Shrunk) -> Result<TermId, NoMemory>
     requires { IsPair terms.old pair }
     ensures made { IfOk result (λ id. Makes terms.new id 1 (λ v. digit (nat_lt (term_at v terms.old pair.first) (value_of v (form_tree terms.old pair.second))))) }
@@ -252,7 +252,7 @@ pub fn is_less(terms: &mut Terms, pair: Shrunk) -> Result<TermId, NoMemory>
 
 /// Whether the second is less.
 // icmp ult (zext Y), (zext X) --> icmp ult Y, X
-// icmp slt (zext Y), (zext X) --> icmp ult Y, X, if X was widened
+// icmp slt (zext Y), (zext X) --> icmp ult Y, X, if X is narrower than the zext
 pub fn is_greater(terms: &mut Terms, pair: Shrunk) -> Result<TermId, NoMemory>
     requires { IsPair terms.old pair }
     ensures made { IfOk result (λ id. Makes terms.new id 1 (λ v. digit (nat_lt (value_of v (form_tree terms.old pair.second)) (term_at v terms.old pair.first)))) }
