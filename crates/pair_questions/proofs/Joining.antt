@@ -97,13 +97,15 @@ pub widened : (s : Subject) (q new : PointQuestion) (left : Vec Candidate) (i : 
     → ((front : List Candidate) → IsQuestionOf s front (record q { left = left }) → IsQuestionOf s (front ++ c ∷ []) new) → IsPointQuestion s new × (length new.left.items < length q.left.items)
 widened s q new left i c h lt is gone count same limit joined =
     let taken : new.left.items ≡ remove q.left.items i = ap (λ (l : Vec Candidate). l.items) same ∙ gone in
-    let fewer : length new.left.items + 1 ≡ length q.left.items = ap (λ (l : Vec Candidate). length l.items + 1) same ∙ count in
-    ((record {
-      front = h.front ++ c ∷ [];
-      question = joined h.front (question_left s h.front q (record q { left = left }) refl h.question);
-      all = taken_joined s.pair.now s.bounds.now h.front q.left.items new.left.items i c lt is taken fewer h.all;
-      whole = subst (λ (l : Option ℕ). IfSome l (λ n. (0 < n) × (new.left.items ≡ []))) (sym limit) (whole_less q.limit q.left.items new.left.items h.whole fewer);
-    }), (omega (arith, fewer)))
+    let fewer : length new.left.items + 1 ≡ length q.left.items = ap (λ (l : Vec Candidate). length l.items + 1) same ∙ count in (
+      (record {
+        front = h.front ++ c ∷ [];
+        question = joined h.front (question_left s h.front q (record q { left = left }) refl h.question);
+        all = taken_joined s.pair.now s.bounds.now h.front q.left.items new.left.items i c lt is taken fewer h.all;
+        whole = subst (λ (l : Option ℕ). IfSome l (λ n. (0 < n) × (new.left.items ≡ []))) (sym limit) (whole_less q.limit q.left.items new.left.items h.whole fewer);
+      }),
+      (omega (arith, fewer)),
+    )
 
 -- what holds where the join is Ok holds where the answer is
 pub where_joined : (join : Result (Unit {0}) NoMemory) (both : Result Bool NoMemory) (Q P : Type 0) → both ≡ result_and join (Ok true) → OnOk join Q → (Q → P) → IfOk both (λ b. IsTrue b → P)

@@ -18,7 +18,7 @@ returns-then-is_empty-clause-none c _ =
 pub remove-candidate-requires : goal.remove-candidate-requires
 remove-candidate-requires c =
     let s = c.args.subject.now in
-    found_within s.pair.now s.bounds.now c.args.point.now c.as_slice-left.result.now c.args.self.now.left.items c.in_ok-i.field-0 c.in-Some.i c.as_slice-left.ensures.value c.in-Some.is c.in_ok-i.ensures
+    omega (arith, found_within s.pair.now s.bounds.now c.args.point.now c.as_slice-left.result.now c.args.self.now.left.items c.in_ok-i.field-0 c.in-Some.i c.as_slice-left.ensures.value c.in-Some.is c.in_ok-i.ensures)
 
 pub returns-in-Some-clause-widened : goal.returns-in-Some-clause-widened
 returns-in-Some-clause-widened c =
@@ -27,5 +27,5 @@ returns-in-Some-clause-widened c =
     let i = c.in-Some.i in
     let within = found_within s.pair.now s.bounds.now c.args.point.now c.as_slice-left.result.now q.left.items c.in_ok-i.field-0 i c.as_slice-left.ensures.value c.in-Some.is c.in_ok-i.ensures in
     where_joined c.join.result c.and.result _ _ c.and.ensures c.join.ensures.question
-    (widened s q c.join.new.self c.remove-candidate.new.self i c.remove-candidate.result c.requires.question within c.remove-candidate.ensures.value c.remove-candidate.ensures.items c.remove-candidate.ensures.len
+    (widened s q c.join.new.self c.remove-candidate.new.self i c.remove-candidate.result c.requires.question within c.remove-candidate.ensures.value c.remove-candidate.ensures.items (omega (arith, c.remove-candidate.ensures.len))
     c.join.ensures.left c.join.ensures.limit)
