@@ -9,7 +9,7 @@ answer-requires-clause-trail c = trail_asked c.args.subject.now c.args.budget.no
 
 pub returns-in-Least : goal.returns-in-Least
 returns-in-Least c =
-    IfOk-weaker c.answer.result _ _ (λ end round. round_asked c.args.subject.now c.args.budget.now c.args.self.now _ _ end c.least.ensures.tapes round) c.answer.ensures
+    IfOk-weaker c.answer.result _ _ (λ end round. round_asked c.args.subject.now c.args.budget.now c.args.self.now (record c.args.self.now { question = c.least.new.self }) c.answer.new.self end c.least.ensures.tapes round) c.answer.ensures
 
 pub returns-in-None : goal.returns-in-None
 returns-in-None c =
