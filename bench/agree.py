@@ -2,7 +2,7 @@
 """Whether the three ways to check a pass say the same of each function: tv-check --opt, tv-tree, and
 opt with the plugin.
 
-    bench/agree.py FOLDER.. -p PASS [--functions N] [--jobs N] [--tv PROGRAM] [--opt ARGS]
+    bench/agree.py FOLDER.. -p PASS [--functions N] [--jobs N] [--tv PROGRAM] [--opt=ARGS]
 
 The folders are walked for .ll files. Files are taken in an order that depends on their names alone
 and mixes them, until N functions were compared (default: all), --jobs files at a time (1). ARGS are
@@ -14,7 +14,8 @@ bounds on their work, those of TV_ARGS, else --weight 100000 --rounds 64, and --
 question (10). `bounded` is `correct` for the plugin, which doesn't ask that. It has no row where the
 others say `same`, `missing` or `extra`. A row that is `unknown time` in one of the three is counted
 as `time` and compared with nothing: time differs from run to run. Functions without a name, which
-the plugin calls `unnamed`, are compared between the other two.
+the plugin calls `unnamed`, are compared between the other two. PASS is one pass: a function has one
+row of the plugin.
 
 A line for each difference, and for each fault: one of the three that crashes, gives no whole report,
 or says that a module is at fault, whose rows are then not compared. Then the counts by kind.
@@ -148,12 +149,9 @@ def of_plugin(text):
     lines = [json.loads(line) for line in text.splitlines()]
     if lines and (lines[-1]["kind"] != "end" or lines[-1]["rows"] != len(lines) - 1):
         raise Fault("a report without its end")
-    unnamed = 0
     for row in lines[:-1]:
-        name = row["function"]
-        if name == UNNAMED:
-            name, unnamed = f"{UNNAMED} {unnamed}", unnamed + 1
-        found.add(spelled(name), row["kind"], row["detail"])
+        if row["function"] != UNNAMED or UNNAMED not in found.rows:
+            found.add(spelled(row["function"]), row["kind"], row["detail"])
     return found
 
 
@@ -175,15 +173,12 @@ def compared(check, tree, plugin):
     """The kind of each function that tv-check or tv-tree names, where all say the same, and a line for
     each difference; `time` where one was out of time. Each of the three is a map of names to rows."""
     kinds, lines = collections.Counter(), []
-    named = dict(plugin)
-    if UNNAMED in check:
-        named = {re.sub(rf"^{UNNAMED} 0$", UNNAMED, name.strip('"')) if is_unnamed(name) else name: row
-                 for name, row in named.items()}
-    else:
-        named = {name: row for name, row in named.items() if not is_unnamed(name)}
-    for name in dict.fromkeys([*check, *tree, *named]):
-        rows = [check.get(name, "no row"), tree.get(name, "no row"), named.get(name, "no row")]
-        if name.isdigit():
+    nameless = {name for name in {*check, *tree} if name.isdigit()}
+    # Which of them the plugin's row is about can't be said.
+    hidden = nameless | {UNNAMED} if nameless else set()
+    for name in dict.fromkeys([*check, *tree, *(each for each in plugin if each not in hidden)]):
+        rows = [rows.get(name, "no row") for rows in (check, tree, plugin)]
+        if name in hidden:
             rows.pop()
         if any(row.startswith(TIME) for row in rows):
             kinds["time"] += 1
@@ -194,10 +189,6 @@ def compared(check, tree, plugin):
             lines.append(f"@{name}: " + ", ".join(f"{front} {row}"
                                                   for front, row in zip(FRONTS, rows)))
     return kinds, lines
-
-
-def is_unnamed(name):
-    return name.strip('"').startswith(UNNAMED + " ")
 
 
 def agree(check, tree, plugin=None):
