@@ -143,7 +143,7 @@ def pairs_have_their_rows(bench):
 
 
 def plain(text):
-    """A row or a report without what its correct rows rest on, which the plugin doesn't say."""
+    """A row or a report without what its correct rows rest on, which rules.ll doesn't say."""
     return re.sub(r"^((?:@\S+ )?correct)(?: no bound)?(?: \[[^]]*\])?", r"\1", text, flags=re.M)
 
 
@@ -180,9 +180,9 @@ def same_row_in_both(bench):
     before = bench.write("before.ll", text)
     seen = bench.opt(text, "wrong-alias")
     after = bench.write("after.ll", seen.stdout)
-    row = "@stores correct by align, noalias; fault may hide: arg1:noalias\n"
+    row = "@stores correct [blocks 2 bytes 8] by align, noalias; fault may hide: arg1:noalias\n"
     checked = bench.run(os.path.join(TOOLS, "tv-check"), "--lower", before, after)
-    within(row, plain(checked.stdout), "tv-check")
+    within(row, checked.stdout, "tv-check")
     within(row, seen.stderr, "-tv")
     wrong = bench.opt(text.replace("i8 2", "i8 0").replace("  ret", "  %s = add i8 1, 2\n"
                                    "  store i8 %s, ptr %q\n  ret"), "wrong-sub")
@@ -219,12 +219,12 @@ CONVENTIONS = """define coldcc i8 @cold(i8 %x) {
 def conventions(bench):
     """A calling convention that both functions have marks no row; one that one has alone does."""
     done = bench.opt(CONVENTIONS, "instcombine")
-    within("tv: instcombine @cold correct by header\n", done.stderr, "the row")
+    within("tv: instcombine @cold correct no bound by header\n", done.stderr, "the row")
     before = bench.write("before.ll", CONVENTIONS)
     after = bench.write("after.ll", CONVENTIONS.replace("coldcc ", ""))
     for sides in ((before, after), (after, before)):
         done = bench.run(os.path.join(TOOLS, "tv-check"), "--lower", "--no-trace", *sides)
-        within("@cold correct by header; fault may hide: header:coldcc\n", plain(done.stdout),
+        within("@cold correct no bound by header; fault may hide: header:coldcc\n", done.stdout,
                "tv-check")
 
 
@@ -252,19 +252,21 @@ def lowered_alone(bench):
 def one_variable(bench):
     """A variable that both functions, or one of them, name is a parameter of both; two are not."""
     done = bench.opt(VARIABLES, "gvn,wrong-sub", "-tv-keep=kept")
-    within("tv: gvn @loads correct [blocks 1] by global\n", done.stderr, "the row")
-    within("tv: gvn @unread correct [blocks 1] by global\n", done.stderr, "the row of one side")
+    within("tv: gvn @loads correct [blocks 1 bytes 8] by global\n", done.stderr, "the row")
+    within("tv: gvn @unread correct [blocks 1 bytes 8] by global\n", done.stderr,
+           "the row of one side")
     within("tv: SubtractPass @adds incorrect [blocks 1] by global; false alarm possible: @x\n"
            "  @x = given1+0\n", done.stderr, "the counterexample")
-    within("tv: gvn @writes correct [blocks 1] by global; fault may hide: @fixed:constant\n",
-           done.stderr, "the row of a store to a constant")
+    within("tv: gvn @writes correct [blocks 1 bytes 8] by global; "
+           "fault may hide: @fixed:constant\n", done.stderr, "the row of a store to a constant")
     within("tv: gvn @both refused source Unsupported", done.stderr, "the row of two")
     before = bench.write("before.ll", VARIABLES)
     after = bench.write("after.ll", done.stdout)
     checked = bench.run(os.path.join(TOOLS, "tv-check"), "--lower", "--no-trace", before, after)
-    for row in ("@loads correct [blocks 1] by global\n", "@unread correct [blocks 1] by global\n",
+    for row in ("@loads correct [blocks 1 bytes 8] by global\n",
+                "@unread correct [blocks 1 bytes 8] by global\n",
                 "@adds incorrect [blocks 1] by global; false alarm possible: @x\n"):
-        within(plain(row), plain(checked.stdout), "tv-check")
+        within(row, checked.stdout, "tv-check")
     within("@both refused source Unsupported", checked.stdout, "tv-check")
     done = bench.run(bench.tv, "check", "kept/1-adds-SubtractPass.before.ll",
                      "kept/1-adds-SubtractPass.after.ll")
