@@ -454,9 +454,9 @@ def lying_tv(bench):
 
 # What a row rests on.
 
-# A tv that judges nothing: it says what FAKE_KIND says, or `unknown weight` or `unknown rounds` where
-# it has less than FAKE_WEIGHT or FAKE_ROUNDS, and appends its limits to FAKE_LOG. It takes FAKE_SLEEP
-# seconds where it is asked again. A target that is undefined everywhere is incorrect.
+# A tv that judges nothing: it says what FAKE_KIND says, or `unknown weight` or `unknown rounds`
+# where it has less than FAKE_WEIGHT or FAKE_ROUNDS, and appends its limits to FAKE_LOG. It takes
+# FAKE_SLEEP seconds where it is asked again. A target that is undefined everywhere is incorrect.
 FAKE = """#!/usr/bin/env -S python3 -IS
 import os, re, sys, time
 words = sys.argv[1:]
@@ -775,7 +775,8 @@ def strange_code(bench):
     equal("failed" in done.stderr, False, "a failed row")
 
 
-CASES = [correct_and_bounds, asks_again, pairs_have_their_rows, pairs_are_the_same_backwards, same_row_in_both, lowered_alone,
+CASES = [pairs_have_their_rows, pairs_are_the_same_backwards, same_row_in_both, lowered_alone,
+         correct_and_bounds, asks_again,
          one_variable, conventions,
          layouts, wrong_pass_is_found, flags_alone_are_seen, module_pass_is_seen,
          only_named_functions, what_is_reached_is_seen, lying_tv,
