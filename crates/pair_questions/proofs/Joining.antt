@@ -3,7 +3,7 @@ use Rattle.pair_questions.proofs.Common.{ℕ, ◌≡◌, ◌<◌, ◌+◌, Bool,
 use Rattle.std.specs.Prelude.{Err, IfOk, IsTrue, MatchOption, Ok, OnOk, Result, is_some, remove}
 use Rattle.std.specs.Global.{Global, Vec}
 use Rattle.std.proofs.lemmas.Option.{slice_get_within}
-use Rattle.core.specs.Result.{result_and}
+use Rattle.std.specs.Result.{result_and}
 use Rattle.support.specs.declared.no_memory.NoMemory.{NoMemory}
 use Rattle.points.proofs.Args.{ArgsFit-length}
 use Rattle.clause_log.specs.declared.step.Cert.{Cert}
