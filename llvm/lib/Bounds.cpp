@@ -54,10 +54,10 @@ class Reached {
 public:
   explicit Reached(const Function &F) : DL(F.getParent()->getDataLayout()) {}
 
-  void access(const Value *Pointer, int64_t Size, Align Asked) {
+  void access(const Value *Pointer, int64_t Size, Align Wanted) {
     SmallPtrSet<const Value *, 16> Seen;
+    Asked = std::min(Wanted, BlockAlignment);
     visit(Pointer, 0, Size, Seen);
-    Alignment = std::max(Alignment, std::min(Asked, BlockAlignment));
   }
 
   tv::Needs needs(bool HasPointers) const {
@@ -102,6 +102,8 @@ private:
   }
 
   void add(const Value *Base, int64_t Begin, int64_t End) {
+    // That of an access to a local variable alone asks nothing of the bounds.
+    Alignment = std::max(Alignment, Asked);
     Span &Reach = Spans[Base];
     if (Begin >= -LargestBytes)
       Reach.Low = std::min(Reach.Low, Begin);
@@ -129,6 +131,8 @@ private:
 
   const DataLayout &DL;
   MapVector<const Value *, Span> Spans;
+  /// The alignment of the access that is looked at, and the greatest of all.
+  Align Asked;
   Align Alignment;
 };
 

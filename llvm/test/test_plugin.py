@@ -530,6 +530,10 @@ b:
                                    "  %z = load i8, ptr %p"), "no bound", {}),
     ("a pointer that is loaded", with_more("%p = alloca ptr\n  %q = load ptr, ptr %p"),
      "[blocks 2 bytes 8]", {"blocks": 2, "bytes": 8}),
+    ("a local variable with an alignment", PLAIN.replace("(i8 %x)", "(i8 %x, ptr %p)").replace(
+        "  ret", "  %q = alloca i64, align 16\n  store i64 1, ptr %q, align 16\n"
+                 "  %z = load i8, ptr %p, align 1\n  ret"),
+     "[blocks 1 bytes 8]", {"blocks": 1, "bytes": 8}),
     ("null, undef and poison", with_more(
         "%c = icmp eq ptr null, undef\n  %d = icmp eq ptr null, poison"), "no bound", {}),
     ("both", LOOP.replace("(i8 %x)", "(i8 %x, ptr %p)"), "[turns 4 blocks 1 bytes 8]",
