@@ -586,7 +586,8 @@ CASES = [words_point, binary_files, correct_and_bounds, asks_again, no_trace, tr
          made_from_options, stale_files_are_named, pages_in("groff", ["groff", "-man", "-ww", "-z"]),
          pages_in("mandoc", ["mandoc", "-T", "lint", "-W", "warning"]),
          pages_in("man", ["man", "--warnings", "-l"]), completions_of_bash, completions_of("zsh"),
-         completions_of("fish"), both_in_one, exports_of_the_library, dist_refuses, dist_packs, dist_of_unproved]
+         completions_of("fish"), both_in_one, exports_of_the_library, dist_refuses, dist_packs,
+         dist_of_unproved]
 
 
 def main():
