@@ -68,7 +68,10 @@ public:
       add("large-switch");
   }
   void visitUnreachableInst(UnreachableInst &) {}
-  void visitIndirectBrInst(IndirectBrInst &) { add("indirect-branch"); }
+  void visitIndirectBrInst(IndirectBrInst &I) {
+    add("indirect-branch");
+    operand(I.getAddress(), false);
+  }
 
   // Values.
 
