@@ -32,6 +32,7 @@ LIBRARY = os.path.join(TREE, "crates", "tv_c", "out", "libtv_c.a")
 WRONG = os.path.join(BUILD, "wrong-passes.so")
 PAIRS = os.path.join(HERE, "rules.ll")
 STRANGE = os.path.join(HERE, "strange.ll")
+CAUSES = os.path.join(HERE, "causes.ll")
 CODE = os.path.join(TREE, "bench", "pairs.c")
 OPT, CLANG = "opt-19", "clang-19"
 POSITION = re.compile(r" \d+:\d+")
@@ -247,6 +248,34 @@ def lowered_alone(bench):
                      "-o", "-", STRANGE)
     within("-tv-pair=/none: ", done.stderr, "what it says of a module that isn't there")
     equal(done.returncode, 1, "the status then")
+
+
+def all_causes(bench):
+    """tv-causes finds the causes of each comment of causes.ll, and tv refuses just what has one. With
+    tv-lower before it those that are left are found: here of smax none."""
+    with open(CAUSES) as file:
+        wanted = re.findall(r"^; (.*)\ndefine [^@\n]*@(\w+)\(", file.read(), re.M)
+    found = causes_of(bench, "function(tv-causes)")
+    rows = bench.run(bench.tv, "check", CAUSES, CAUSES).stdout
+    for causes, name in wanted:
+        equal(found[name], "" if causes == "none" else causes, f"the causes of @{name}")
+        kind = "correct" if causes == "none" else "refused"
+        equal(re.search(rf"^@{name} (\w+)", rows, re.M).group(1), kind, f"the row of @{name}")
+    equal(len(found), len(wanted), "the functions")
+    after = causes_of(bench, "tv-lower,function(tv-causes)")
+    for name, causes in {"greatest": "", "fields": "aggregate", "attached": "", "header": "",
+                         "copies": "memcpy-64 memmove-large memset-variable"}.items():
+        equal(after[name], causes, f"the causes of @{name} after tv-lower")
+
+
+def causes_of(bench, passes):
+    """The attribute "tv-causes" of each function of causes.ll after these passes."""
+    done = bench.run(OPT, f"-load-pass-plugin={PLUGIN}", f"-passes={passes}", "-S", "-o", "-", CAUSES)
+    equal((done.returncode, done.stderr), (0, ""), f"the status of {passes}")
+    noted = dict(re.findall(r'^attributes (#\d+) = .*"tv-causes"="([^"]*)"', done.stdout, re.M))
+    functions = re.findall(r"^define [^@\n]*@(\w+)\((.*)\{$", done.stdout, re.M)
+    return {name: next((noted[each] for each in re.findall(r"#\d+", rest) if each in noted), "")
+            for name, rest in functions}
 
 
 def one_variable(bench):
@@ -781,7 +810,7 @@ def strange_code(bench):
 
 CASES = [pairs_have_their_rows, pairs_are_the_same_backwards, same_row_in_both, lowered_alone,
          correct_and_bounds, asks_again,
-         one_variable, conventions,
+         all_causes, one_variable, conventions,
          layouts, wrong_pass_is_found, flags_alone_are_seen, module_pass_is_seen,
          only_named_functions, what_is_reached_is_seen, lying_tv,
          marked_rows_have_their_kind, exits_on_error, report_is_read_by_baseline, pairs_are_kept, slow_pair, failing_tv,
