@@ -12,10 +12,10 @@ Each of the three gives the kind of each function's row: tools/tv-check --json, 
 tools/tv-tree, and the plugin's -tv-report with -tv-no-lower (docs/PLUGIN.md). All have the same
 bounds on their work, those of TV_ARGS, else --weight 100000 --rounds 64, and --seconds N for each
 question (10). `bounded` is `correct` for the plugin, which doesn't ask that. It has no row where the
-others say `same`, `missing` or `extra`. A row that is `unknown time` in one of the three is counted
-as `time` and compared with nothing: time differs from run to run. Functions without a name, which
-the plugin calls `unnamed`, are compared between the other two. PASS is one pass: a function has one
-row of the plugin.
+others say `same`, `missing` or `extra`. A row that is `unknown time` or `unknown reach time` in one of the
+three is counted as `time` and compared with nothing: time differs from run to run. Functions without a
+name, which the plugin calls `unnamed`, are compared between the other two. PASS is one pass: a function
+has one row of the plugin.
 
 A line for each difference, and for each fault: one of the three that crashes, gives no whole report,
 or says that a module is at fault, whose rows are then not compared. Then the counts by kind.
@@ -50,7 +50,8 @@ USUAL = "--weight 100000 --rounds 64"
 FRONTS = ["tv-check", "tv-tree", "plugin"]
 # What a row of tv-check is where the plugin has none.
 NO_ROW = {"same", "missing", "extra"}
-TIME = "unknown time"
+# Of a pair, or of the question how far its source is defined.
+TIME = ("unknown time", "unknown reach time")
 UNNAMED = "unnamed"
 # Statuses with which tv-check and tv-tree end after a whole report.
 REPORTED = {0, 1, 2, 3, 10}

@@ -73,10 +73,11 @@ def rows_agree(folder):
 
 def functions_are_compared(folder):
     kinds, lines = agree.compared(
-        {"a": "correct", "b": "bounded", "c": "unknown time", "d": "correct no bound", "0": "correct"},
-        {"a": "correct", "b": "bounded", "c": "correct", "d": "correct", "0": "correct", "e": "same"},
-        {"a": "correct", "b": "correct", "c": "correct", "d": "unknown weight", "unnamed": "failed"})
-    equal(dict(kinds), {"correct": 2, "bounded": 1, "time": 1, "different": 2}, "counts")
+        {"a": "correct", "b": "bounded", "c": "unknown time", "d": "correct no bound", "0": "correct",
+         "t": "unknown reach time"},
+        {"t": "correct", "a": "correct", "b": "bounded", "c": "correct", "d": "correct", "0": "correct", "e": "same"},
+        {"a": "correct", "b": "correct", "c": "correct", "d": "unknown weight", "t": "correct", "unnamed": "failed"})
+    equal(dict(kinds), {"correct": 2, "bounded": 1, "time": 2, "different": 2}, "counts")
     equal(lines, ["@d: tv-check correct no bound, tv-tree correct, plugin unknown weight",
                   "@e: tv-check no row, tv-tree same, plugin no row"], "differences")
     kinds, lines = agree.compared({"unnamed": "correct"}, {"unnamed": "correct"},
