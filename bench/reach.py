@@ -263,14 +263,27 @@ HEADS = ["library", "level", "functions", "read", "after write-out", "dropped", 
          "decided", "differ"]
 
 
+SHARES = {"read", "after write-out", "with a run"}
+
+
+def shown_count(head, number, whole):
+    """A number of a table, `-` where it wasn't asked for."""
+    if number is None:
+        return "-"
+    return f"{number:,} ({percent(number, whole)})" if head in SHARES else f"{number:,}"
+
+
 def counts_of(rows):
+    """The numbers of HEADS from `functions` on; None for what wasn't asked of each."""
     after = [row for row in rows if row["after"]]
-    verdicts = [row.get("verdict", "") for row in after]
+    judged_rows = [row for row in after if "run" in row]
+    answers = [sum(row["run"] == "run" for row in judged_rows),
+               sum(row["run"] == "none" for row in judged_rows),
+               sum(row["verdict"].startswith(("correct", "incorrect")) for row in judged_rows)]
+    if len(judged_rows) < len(after):
+        answers = [None] * len(answers)
     return [len(rows), sum(row["raw"] for row in rows), len(after),
-            sum(bool(row["dropped"]) for row in after),
-            sum(row.get("run") == "run" for row in after),
-            sum(row.get("run") == "none" for row in after),
-            sum(verdict.startswith(("correct", "incorrect")) for verdict in verdicts),
+            sum(bool(row["dropped"]) for row in after), *answers,
             sum(row["differs"] for row in rows)]
 
 
@@ -286,8 +299,7 @@ def table(rows):
             of_level.append(("all", [row for _, each in of_level for row in each]))
         for library, each in of_level:
             counts = counts_of(each)
-            shown = [f"{counts[0]:,}", *(f"{number} ({percent(number, counts[0])})" if at < 2 or at == 3
-                                         else str(number) for at, number in enumerate(counts[1:]))]
+            shown = [shown_count(head, number, counts[0]) for head, number in zip(HEADS[2:], counts)]
             lines.append(f"| {library} | {level} | {' | '.join(shown)} |")
     return lines
 
