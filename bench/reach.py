@@ -35,6 +35,7 @@ import fnmatch
 import glob
 import json
 import os
+import re
 import shlex
 import subprocess
 import sys
@@ -57,6 +58,8 @@ LEVELS = {"O0": ["-O0", "-Xclang", "-disable-O0-optnone"], "O1": ["-O1"], "O2": 
 MOST_BYTES, MOST_FUNCTIONS = 4_000_000, 500
 # A table of causes has as many lines.
 LINES = 30
+# Of what clang says, the first error says most.
+ERROR = re.compile(rb"^.*\berror: .*$", re.M)
 
 
 class Fault(Exception):
@@ -131,7 +134,9 @@ def ran(what, words, data=b""):
     """The output of a child; a Fault where it failed."""
     done = tvlib.run(words, data, SECONDS)
     if done.status != 0:
-        raise Fault(f"{what}: {tvlib.why_failed(done, SECONDS)}")
+        errors = [] if tvlib.is_crash(done) else ERROR.findall(done.errors)
+        why = errors[0].decode("utf-8", "replace") if errors else tvlib.why_failed(done, SECONDS)
+        raise Fault(f"{what}: {why}")
     return done.output
 
 
@@ -406,9 +411,9 @@ def main():
     printed(rows, options.causes)
     if failed:
         tvlib.said(f"{failed} failed")
-    if not rows:
-        return tvlib.NOTHING
-    return tvlib.FAULT if failed or any(row["differs"] for row in rows) else 0
+    if failed or any(row["differs"] for row in rows):
+        return tvlib.FAULT
+    return 0 if rows else tvlib.NOTHING
 
 
 if __name__ == "__main__":
