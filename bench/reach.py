@@ -2,7 +2,7 @@
 """How much of real code `tv` reads, how much of that it judges, and what keeps it from the rest.
 
     bench/reach.py [--level O0|O1|O2 ..] [--only NAMES] [--sources FOLDER] [--fetch]
-                   [--rows FILE] [--causes] [--jobs N] [--seconds S]
+                   [--rows FILE] [--causes] [--jobs N] [--seconds S] [--no-judging]
     bench/reach.py FOLDER.. [--flags FLAGS] ..
     bench/reach.py --from FILE.. [--causes]
 
@@ -22,7 +22,7 @@ are those of clang-19 (O1): O0 is -O0 and then sroa. Of each function is asked
 
 --causes prints the causes of the functions that aren't read after the write-out: how many have each,
 how many that one alone, and in which order the causes would bring most if one were taken away after
-another. --rows keeps a JSON line for each function, which --from counts again.
+another. --no-judging asks what is read, alone. --rows keeps a JSON line for each function, which --from counts again.
 
 The status is 0 only where each file was compiled, each run of clang, opt and tv ended by itself, and
 no function differs. What failed is named on standard error, and counted.
