@@ -2,7 +2,7 @@
 """How much of real code `tv` reads, how much of that it judges, and what keeps it from the rest.
 
     bench/reach.py [--level O0|O1|O2 ..] [--only NAMES] [--sources FOLDER] [--fetch]
-                   [--rows FILE] [--causes] [--jobs N] [--seconds S]
+                   [--rows FILE] [--causes] [--jobs N] [--seconds S] [--no-judging]
     bench/reach.py FOLDER.. [--flags FLAGS] ..
     bench/reach.py --from FILE.. [--causes]
 
@@ -22,7 +22,7 @@ are those of clang-19 (O1): O0 is -O0 and then sroa. Of each function is asked
 
 --causes prints the causes of the functions that aren't read after the write-out: how many have each,
 how many that one alone, and in which order the causes would bring most if one were taken away after
-another. --rows keeps a JSON line for each function, which --from counts again.
+another. --no-judging asks what is read, alone. --rows keeps a JSON line for each function, which --from counts again.
 
 The status is 0 only where each file was compiled, each run of clang, opt and tv ended by itself, and
 no function differs. What failed is named on standard error, and counted.
@@ -35,6 +35,7 @@ import fnmatch
 import glob
 import json
 import os
+import re
 import shlex
 import subprocess
 import sys
@@ -57,6 +58,8 @@ LEVELS = {"O0": ["-O0", "-Xclang", "-disable-O0-optnone"], "O1": ["-O1"], "O2": 
 MOST_BYTES, MOST_FUNCTIONS = 4_000_000, 500
 # A table of causes has as many lines.
 LINES = 30
+# Of what clang says, the first error says most.
+ERROR = re.compile(rb"^.*\berror: .*$", re.M)
 
 
 class Fault(Exception):
@@ -131,7 +134,9 @@ def ran(what, words, data=b""):
     """The output of a child; a Fault where it failed."""
     done = tvlib.run(words, data, SECONDS)
     if done.status != 0:
-        raise Fault(f"{what}: {tvlib.why_failed(done, SECONDS)}")
+        errors = [] if tvlib.is_crash(done) else ERROR.findall(done.errors)
+        why = errors[0].decode("utf-8", "replace") if errors else tvlib.why_failed(done, SECONDS)
+        raise Fault(f"{what}: {why}")
     return done.output
 
 
@@ -263,14 +268,27 @@ HEADS = ["library", "level", "functions", "read", "after write-out", "dropped", 
          "decided", "differ"]
 
 
+SHARES = {"read", "after write-out", "with a run"}
+
+
+def shown_count(head, number, whole):
+    """A number of a table, `-` where it wasn't asked for."""
+    if number is None:
+        return "-"
+    return f"{number:,} ({percent(number, whole)})" if head in SHARES else f"{number:,}"
+
+
 def counts_of(rows):
+    """The numbers of HEADS from `functions` on; None for what wasn't asked of each."""
     after = [row for row in rows if row["after"]]
-    verdicts = [row.get("verdict", "") for row in after]
+    judged_rows = [row for row in after if "run" in row]
+    answers = [sum(row["run"] == "run" for row in judged_rows),
+               sum(row["run"] == "none" for row in judged_rows),
+               sum(row["verdict"].startswith(("correct", "incorrect")) for row in judged_rows)]
+    if len(judged_rows) < len(after):
+        answers = [None] * len(answers)
     return [len(rows), sum(row["raw"] for row in rows), len(after),
-            sum(bool(row["dropped"]) for row in after),
-            sum(row.get("run") == "run" for row in after),
-            sum(row.get("run") == "none" for row in after),
-            sum(verdict.startswith(("correct", "incorrect")) for verdict in verdicts),
+            sum(bool(row["dropped"]) for row in after), *answers,
             sum(row["differs"] for row in rows)]
 
 
@@ -286,8 +304,7 @@ def table(rows):
             of_level.append(("all", [row for _, each in of_level for row in each]))
         for library, each in of_level:
             counts = counts_of(each)
-            shown = [f"{counts[0]:,}", *(f"{number} ({percent(number, counts[0])})" if at < 2 or at == 3
-                                         else str(number) for at, number in enumerate(counts[1:]))]
+            shown = [shown_count(head, number, counts[0]) for head, number in zip(HEADS[2:], counts)]
             lines.append(f"| {library} | {level} | {' | '.join(shown)} |")
     return lines
 
@@ -394,9 +411,9 @@ def main():
     printed(rows, options.causes)
     if failed:
         tvlib.said(f"{failed} failed")
-    if not rows:
-        return tvlib.NOTHING
-    return tvlib.FAULT if failed or any(row["differs"] for row in rows) else 0
+    if failed or any(row["differs"] for row in rows):
+        return tvlib.FAULT
+    return 0 if rows else tvlib.NOTHING
 
 
 if __name__ == "__main__":

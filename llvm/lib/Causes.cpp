@@ -154,9 +154,7 @@ public:
   void visitAtomicCmpXchgInst(AtomicCmpXchgInst &I) {
     access(I, I.isVolatile(), true);
   }
-  void visitAtomicRMWInst(AtomicRMWInst &I) {
-    access(I, I.isVolatile(), true);
-  }
+  void visitAtomicRMWInst(AtomicRMWInst &I) { access(I, I.isVolatile(), true); }
 
   // Vectors and aggregates: a type says what they are. What is taken apart has
   // a type too that isn't read.
@@ -172,8 +170,8 @@ public:
   void visitCallBase(CallBase &I) {
     if (!isa<CallInst>(I))
       add("exception");
-    const Function *Callee = dyn_cast<Function>(
-        I.getCalledOperand()->stripPointerCastsAndAliases());
+    const Function *Callee =
+        dyn_cast<Function>(I.getCalledOperand()->stripPointerCastsAndAliases());
     if (I.isInlineAsm())
       add("asm");
     else if (Callee && Callee->isIntrinsic())
@@ -212,7 +210,8 @@ private:
     for (StringRef Part : Parts) {
       bool IsPointer = Part.consume_front("p:");
       StringRef Size = Part.split(':').first;
-      if (Part == "E" || (IsPointer && !Size.empty() && Size.ltrim('0') != "64"))
+      if (Part == "E" ||
+          (IsPointer && !Size.empty() && Size.ltrim('0') != "64"))
         add("data-layout");
     }
   }
