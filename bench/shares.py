@@ -4,15 +4,23 @@
 The share is that of the lines of .rt and .antt files in the crate and in all crates above it, by the
 dependencies in crates.txt. Crates stand under the layers of crates.txt (its comments), in its order.
 
-    python3 bench/shares.py            a table of the layers, as docs/ARCHITECTURE.md has it
+    python3 bench/shares.py            a table of the layers
     python3 bench/shares.py NAME ..    those crates alone: lines, and the crates above each
+    python3 bench/shares.py --check    status 1 where docs/ARCHITECTURE.md has other layers or crates, or a
+                                       share that is off by more than 1
+    python3 bench/shares.py --write    puts the table, but for tests and bench, into docs/ARCHITECTURE.md
 """
 import pathlib
+import re
 import sys
 import textwrap
 
 ROOT = pathlib.Path(__file__).resolve().parent.parent
+PAGE = ROOT / "docs/ARCHITECTURE.md"
 SOURCES = (".rt", ".antt")
+HEAD = "| layer | percent of the tree proved again |\n|---|---|\n"
+LEFT_OUT = ("tests", "bench")
+OFF = 1
 
 
 def layers():
@@ -60,25 +68,87 @@ def line_count(name):
     return total
 
 
-def main():
-    uses = dependencies()
+def shares(uses):
+    """The share of each crate, in percent."""
     lines = {name: line_count(name) for name in uses}
     whole = sum(lines.values())
+    return {name: 100 * sum(lines[crate] for crate in above(name, uses)) / whole for name in uses}
 
-    def share(name):
-        return round(100 * sum(lines[crate] for crate in above(name, uses)) / whole)
 
-    for name in sys.argv[1:]:
-        if name not in uses:
+def row(layer, crates, found):
+    return f"| {layer} | " + ", ".join(f"{name} {round(found[name])}" for name in crates) + " |\n"
+
+
+def written():
+    """The page in three parts: the text before its rows of shares, these rows, the text after them."""
+    page = PAGE.read_text()
+    if page.count(HEAD) != 1:
+        sys.exit(f"docs/ARCHITECTURE.md doesn't have the table of shares, once:\n{HEAD}")
+    first = page.index(HEAD) + len(HEAD)
+    rows = re.match(r"(?:\|.*\n)*", page[first:])[0]
+    return page[:first], rows, page[first + len(rows):]
+
+
+def row_shares(line):
+    """The layer of a row, and the share that it has of each crate."""
+    found = re.fullmatch(r"\| ([^|]+) \| ((?:\w+ \d+(?:, )?)+) \|", line)
+    if not found:
+        sys.exit(f"docs/ARCHITECTURE.md: no row of shares: {line}")
+    pairs = [pair.split() for pair in found[2].split(", ")]
+    return found[1], {name: int(share) for name, share in pairs}
+
+
+def differences(rows, found):
+    """Where rows of the page differ from what was measured."""
+    there = [row_shares(line) for line in rows.splitlines()]
+    wanted = [(layer, crates) for layer, crates in layers() if layer not in LEFT_OUT]
+    if [(layer, list(known)) for layer, known in there] != wanted:
+        return ["other layers or crates, or in another order, than crates.txt has"]
+    return [f"{name}: {share} percent; it is {found[name]:.1f}" for _, known in there
+            for name, share in known.items() if abs(round(found[name]) - share) > OFF]
+
+
+def check(found):
+    faults = differences(written()[1], found)
+    for fault in faults:
+        print(f"docs/ARCHITECTURE.md: {fault}")
+    if faults:
+        sys.exit("docs/ARCHITECTURE.md isn't current: run bench/shares.py --write")
+
+
+def write(found):
+    before, _, after = written()
+    rows = "".join(row(layer, crates, found) for layer, crates in layers() if layer not in LEFT_OUT)
+    PAGE.write_text(before + rows + after)
+
+
+def tell(name, uses, found):
+    """Prints the share of one crate, and what is above it."""
+    reached = sorted(above(name, uses) - {name})
+    print(f"{name}: {line_count(name)} lines, {round(found[name])} % proved again, {len(reached)} crates above")
+    print(textwrap.fill(" ".join(reached), 100, initial_indent="    ", subsequent_indent="    "))
+
+
+def main():
+    words = sys.argv[1:]
+    if words in (["--help"], ["-h"]):
+        print(__doc__.strip())
+        return
+    uses = dependencies()
+    for name in words:
+        if name not in uses and words not in (["--check"], ["--write"]):
             sys.exit(f"{name}: not in crates.txt")
-        reached = sorted(above(name, uses) - {name})
-        print(f"{name}: {lines[name]} lines, {share(name)} % proved again, {len(reached)} crates above")
-        print(textwrap.fill(" ".join(reached), 100, initial_indent="    ", subsequent_indent="    "))
-    if not sys.argv[1:]:
-        print(f"{len(uses)} crates, {whole} lines\n")
-        print("| layer | percent of the tree proved again |\n|---|---|")
-        for layer, crates in layers():
-            print(f"| {layer} | " + ", ".join(f"{name} {share(name)}" for name in crates) + " |")
+    found = shares(uses)
+    if words == ["--check"]:
+        check(found)
+    elif words == ["--write"]:
+        write(found)
+    elif words:
+        for name in words:
+            tell(name, uses, found)
+    else:
+        print(f"{len(uses)} crates, {sum(map(line_count, uses))} lines\n")
+        print(HEAD + "".join(row(layer, crates, found) for layer, crates in layers()), end="")
 
 
 if __name__ == "__main__":

@@ -55,7 +55,10 @@ def product_files():
 
 def main():
     wrong = []
-    for title, names, rows in sections(PAGE.read_text()):
+    found = list(sections(PAGE.read_text()))
+    if not found or not all(names and rows for _, names, rows in found):
+        sys.exit("docs/INSTRUCTIONS.md: no section with names, or one without files")
+    for title, names, rows in found:
         listed = {file for file, _ in rows}
         for file, wanted in rows:
             path = ROOT / file

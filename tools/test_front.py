@@ -344,13 +344,67 @@ def both_in_one(bench):
     equal(os.path.relpath(crate, bench.folder), "tree/crates/tv", "the crate")
     lines = bench.file("tree", "crates.txt").splitlines()
     line = next(line for line in lines if line.startswith("tv: "))
-    equal({"tv_run", "trace_run"} <= set(line.split()), True, "what the crate uses")
+    equal({"tv_run", "trace_run", "tv_c"} <= set(line.split()), True, "what the crate uses")
+    equal([each.split(":")[0] for each in lines if re.match(r"tv_c\b", each)], ["tv_c"],
+          "the C library's crate is a plain one")
     text = bench.file("tree", "crates", "tv", "src", "main.rt")
-    has(text, 'if is_called(&rt, "tv_trace") {\n        return tv_trace_main::main(rt);')
+    has(text, 'if is_called(&rt, "tv_trace") {\n        return tv_trace_main::main(rt);',
+        'if is_called(&rt, "tv_c_exports") {\n        return calls_of_tv_c(&rt);', "tv_c::tv_version(")
     has(bench.file("tree", "crates", "tv", "src", "tv_trace_main.rt"), "pub fn main(rt: HostRuntime)")
     equal(len(re.findall(r"#!\[tactic", text)), 1, "lines of a root file")
     done = bench.run("quick", "tv_trace-x")
     equal(done.returncode in (4, 127), True, "status of a name that is tv_trace's")
+
+
+MODULE = """source_filename = "tv"
+define internal i32 @"tv_c::tv_check_into"(ptr noundef nonnull align 1 %0, i64 range(i64 0, 9) %1, ptr %2, \
+i64 %3, ptr align 8 dereferenceable(48) %4, ptr %5, i64 %6, ptr %7) unnamed_addr #1 {
+  %9 = call i64 @"tv_c::tv_version"(ptr %5, i64 %6)
+  ret i32 0
+}
+define internal i64 @"tv_c::tv_version"(ptr %0, i64 %1) #1 {
+  ret i64 1
+}
+define internal i64 @"tv_c::tv_version_more"(ptr %0) {
+  ret i64 1
+}
+define i32 @main(i32 %0, ptr %1) {
+  %3 = call i64 @"tv_c::tv_version"(ptr %1, i64 0)
+  ret i32 0
+}
+"""
+
+
+def exports_of_the_library(bench):
+    quick = loaded("quick")
+    text = quick.with_exports(MODULE)
+    has(text, "\ndefine i32 @tv_check_into(ptr noundef nonnull align 1 %0,",
+        "\ndefine i64 @tv_version(ptr %0, i64 %1)", '\ndefine internal i32 @"program main"(i32 %0,',
+        "call i64 @tv_version(ptr %1, i64 0)", 'define internal i64 @"tv_c::tv_version_more"(ptr %0)')
+    has_not(text, "@main(", '@"tv_c::tv_check_into"', '@"tv_c::tv_version"(')
+    for old, new, said in (
+            ("i64 %6, ptr %7)", "i64 %6, i64 %7)", "tv_check_into is i32 (ptr, i64, ptr, i64, ptr, ptr, i64,"
+             " i64) in the module, and i32 (ptr, i64, ptr, i64, ptr, ptr, i64, ptr) in tv.h"),
+            ("i64 %6, ptr %7)", "i64 %6)", "tv_check_into is "),
+            ('i64 @"tv_c::tv_version"(ptr %0, i64 %1) #1', 'i32 @"tv_c::tv_version"(ptr %0, i64 %1) #1',
+             "tv_version is i32 (ptr, i64) in the module"),
+            ('internal i64 @"tv_c::tv_version"(', 'internal fastcc i64 @"tv_c::tv_version"(',
+             "tv_version has fastcc"),
+            ("(ptr %0, i64 %1) #1", "(ptr %0, i64 %1, ...) #1", "tv_version is "),
+            ("(ptr %0, i64 %1) #1", "(ptr sret([2 x i64]) %0, i64 %1) #1", "tv_version has sret"),
+            ('define internal i64 @"tv_c::tv_version"(', 'define internal i64 @"other"(',
+             "tv_c::tv_version\" is defined 0 times"),
+            ("define i32 @main(", "define i64 @main(", "main is define i64 @main(")):
+        equal(old in MODULE, True, f"{old} is in the module")
+        try:
+            quick.with_exports(MODULE.replace(old, new, 1))
+        except quick.tvlib.Failure as failure:
+            equal(failure.status, 1, f"status of {new}")
+            has(str(failure), said)
+        else:
+            raise AssertionError(f"{new} wasn't refused")
+    for name, wanted in (("tv-quick", "libtv_c-quick.a"), ("tv", "libtv_c.a"), ("x", "libtv_c-x.a")):
+        equal(quick.library_name(name), wanted, f"the library beside {name}")
 
 
 # dist.
@@ -532,7 +586,8 @@ CASES = [words_point, binary_files, correct_and_bounds, asks_again, no_trace, tr
          made_from_options, stale_files_are_named, pages_in("groff", ["groff", "-man", "-ww", "-z"]),
          pages_in("mandoc", ["mandoc", "-T", "lint", "-W", "warning"]),
          pages_in("man", ["man", "--warnings", "-l"]), completions_of_bash, completions_of("zsh"),
-         completions_of("fish"), both_in_one, dist_refuses, dist_packs, dist_of_unproved]
+         completions_of("fish"), both_in_one, exports_of_the_library, dist_refuses, dist_packs,
+         dist_of_unproved]
 
 
 def main():

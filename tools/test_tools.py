@@ -27,6 +27,7 @@ import tempfile
 import time
 import xml.etree.ElementTree
 
+import tvbounds
 import tvwhy
 
 TOOLS = os.path.dirname(os.path.realpath(__file__))
@@ -159,6 +160,19 @@ def check_two(bench):
     done = bench.run("tv-baseline", "base", "-", "--name", "f", "--write", data=REPORT)
     has(done.stdout, "incorrect: f @bad_sum incorrect\nrows 5 incorrect 1 new 0 gone 0\n")
     has(bench.file("base"), "f @calls refused source Unsupported\n", "f @never vacuous\n")
+
+
+def names_are_no_words(bench):
+    for line, from_outside, jumps in (("  %call = add i8 %x, 1", False, []),
+                                      ("  %r = tail call i8 @f()", True, []),
+                                      ("call:", False, []),
+                                      ("  %load.3 = add i8 %x, 1", False, []),
+                                      ("  %q = load ptr, ptr %p", True, []),
+                                      ("  %q = load volatile i8, ptr %p", False, []),
+                                      ("  br label %call", False, ["call"]),
+                                      ("  %label = add i8 %x, 1", False, [])):
+        equal((bool(tvbounds.FROM_OUTSIDE.search(line)), tvbounds.JUMP.findall(line)),
+              (from_outside, jumps), line)
 
 
 FIRST = "".join(REPORT.splitlines(True)[:7]).replace("seconds 10\n", "seconds 10 first\n") + (
@@ -1407,7 +1421,7 @@ def most_functions(bench):
 EVERY = [check_two, check_first, check_src_and_tgt, check_forms, check_refusals, reduced_pair, opt_output_is_passed_on, opt_gate, opt_changed_names, opt_steps, tree_totals,
          vacuous_rows, pages]
 REAL_ONLY = [proof_of_tv, check_bounds, check_layout, check_words, figures, trace_of_tv]
-FAKE_ONLY = [help_is_one_screen, quick_without_rt, check_folders, check_front, check_before,
+FAKE_ONLY = [names_are_no_words, help_is_one_screen, quick_without_rt, check_folders, check_front, check_before,
              check_limit, check_interrupted, check_first_and_slow, check_trace,
              check_terminal, reduced_with_arguments, opt_reads_standard_input, opt_failure_is_passed_on, opt_not_text,
              opt_judges_nothing, opt_same, opt_asks_once, opt_summary,

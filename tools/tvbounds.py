@@ -20,11 +20,12 @@ ALIGN = re.compile(r", *align (\d+)\b")
 FAR = 256
 INTEGER = re.compile(r"i\d+\b")
 # A label; where a jump goes, with no name where that is in quotes; and what may give a pointer: a
-# global, a number, a call, a load of no number.
+# global, a number, a call, a load of no number. A name or a label with such a word in it is none.
 LABEL = re.compile(r"^\s*([-\w.$]+):", re.M)
-JUMP = re.compile(r"\blabel\b(?:\s+%([-\w.$]+))?")
-FROM_OUTSIDE = re.compile(r"@|\b(?:inttoptr|call|invoke|callbr|va_arg)\b"
-                          r"|\bload\b(?!\s+(?:atomic\s+|volatile\s+)*i\d+\b)")
+WORD = r"(?<![-%\w.$])(?:{})(?![-\w.$:])".format
+JUMP = re.compile(WORD("label") + r"(?:\s+%([-\w.$]+))?")
+FROM_OUTSIDE = re.compile("@|" + WORD("inttoptr|call|invoke|callbr|va_arg")
+                          + "|" + WORD("load") + r"(?!\s+(?:atomic\s+|volatile\s+)*i\d+\b)")
 MANY = 64
 SCALARS = {"ptr": 8, "half": 2, "bfloat": 2, "float": 4, "double": 8, "fp128": 16}
 

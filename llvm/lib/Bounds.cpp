@@ -1,4 +1,4 @@
-//===- Bounds.cpp - How much given memory a function asks for -------------===//
+//===- Bounds.cpp - Which bounds fit a function ---------------------------===//
 //
 // tv judges runs on blocks of at most --bytes bytes. A field past the last
 // byte is never defined there, so any target would be correct: the bound has
@@ -6,12 +6,18 @@
 // could only be at offset 0, which has each alignment: so that a wrong one is
 // seen, there are as many bytes more as the greatest alignment that is asked.
 //
+// A function without a jump back has no run that is longer than --turns, and
+// one that has no pointer from outside has none that --blocks and --bytes leave
+// out. Both answers are the ones that tools/tvbounds.py gives.
+//
 //===----------------------------------------------------------------------===//
 
 #include "Bounds.h"
 #include "llvm/ADT/DenseMap.h"
 #include "llvm/ADT/MapVector.h"
 #include "llvm/ADT/SmallPtrSet.h"
+#include "llvm/IR/CFG.h"
+#include "llvm/IR/Constants.h"
 #include "llvm/IR/DataLayout.h"
 #include "llvm/IR/Function.h"
 #include "llvm/IR/GetElementPtrTypeIterator.h"
@@ -48,10 +54,10 @@ class Reached {
 public:
   explicit Reached(const Function &F) : DL(F.getParent()->getDataLayout()) {}
 
-  void access(const Value *Pointer, int64_t Size, Align Asked) {
+  void access(const Value *Pointer, int64_t Size, Align Wanted) {
     SmallPtrSet<const Value *, 16> Seen;
+    Asked = std::min(Wanted, BlockAlignment);
     visit(Pointer, 0, Size, Seen);
-    Alignment = std::max(Alignment, std::min(Asked, BlockAlignment));
   }
 
   tv::Needs needs(bool HasPointers) const {
@@ -96,6 +102,8 @@ private:
   }
 
   void add(const Value *Base, int64_t Begin, int64_t End) {
+    // That of an access to a local variable alone asks nothing of the bounds.
+    Alignment = std::max(Alignment, Asked);
     Span &Reach = Spans[Base];
     if (Begin >= -LargestBytes)
       Reach.Low = std::min(Reach.Low, Begin);
@@ -123,6 +131,8 @@ private:
 
   const DataLayout &DL;
   MapVector<const Value *, Span> Spans;
+  /// The alignment of the access that is looked at, and the greatest of all.
+  Align Asked;
   Align Alignment;
 };
 
@@ -133,6 +143,42 @@ static Type *accessType(const Instruction &I) {
   if (const auto *Store = dyn_cast<StoreInst>(&I))
     return Store->getValueOperand()->getType();
   return I.getType();
+}
+
+/// Whether a block has itself or an earlier block of the text as a successor.
+static bool goesBack(const Function &F) {
+  SmallPtrSet<const BasicBlock *, 16> Begun;
+  for (const BasicBlock &Block : F) {
+    Begun.insert(&Block);
+    if (any_of(successors(&Block),
+               [&](const BasicBlock *Next) { return Begun.contains(Next); }))
+      return true;
+  }
+  return false;
+}
+
+/// Whether an instruction may give a pointer that is no local variable's: a
+/// call, an integer as a pointer, a load of no integer, or a constant that has
+/// an address.
+static bool givesPointer(const Instruction &I) {
+  if (isa<CallBase>(I) || isa<IntToPtrInst>(I) || isa<VAArgInst>(I))
+    return true;
+  if (isa<LoadInst>(I) && !I.getType()->isIntegerTy())
+    return true;
+  return any_of(I.operands(), [](const Use &Operand) {
+    const auto *C = dyn_cast<Constant>(Operand);
+    return C && !isa<ConstantInt>(C) && !isa<ConstantPointerNull>(C) &&
+           !isa<UndefValue>(C);
+  });
+}
+
+/// Whether a pointer may come from outside.
+static bool takesPointers(const Function &F) {
+  return F.isVarArg() ||
+         any_of(
+             F.args(),
+             [](const Argument &A) { return !A.getType()->isIntegerTy(); }) ||
+         any_of(instructions(F), givesPointer);
 }
 
 tv::Needs tv::needsOf(const Function &F) {
@@ -148,5 +194,8 @@ tv::Needs tv::needsOf(const Function &F) {
   }
   bool HasPointers = any_of(
       F.args(), [](const Argument &A) { return A.getType()->isPointerTy(); });
-  return Found.needs(HasPointers);
+  Needs Asked = Found.needs(HasPointers);
+  Asked.GoesBack = goesBack(F);
+  Asked.TakesPointers = takesPointers(F);
+  return Asked;
 }

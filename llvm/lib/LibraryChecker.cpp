@@ -11,6 +11,7 @@
 #include "llvm/ADT/SmallPtrSet.h"
 #include "llvm/ADT/StringExtras.h"
 #include "llvm/Support/thread.h"
+#include <limits>
 
 using namespace llvm;
 using tv::Answer;
@@ -21,7 +22,7 @@ using tv::Answer;
 
 namespace {
 
-/// An option of `tv check`, and where the library has it.
+/// An option of `tv check` without its `--`, and where the library has it.
 struct Option {
   StringLiteral Name;
   uint64_t tv_options::*Field;
@@ -30,10 +31,16 @@ struct Option {
 } // namespace
 
 static constexpr Option Known[] = {
-    {"--turns", &tv_options::turns},         {"--blocks", &tv_options::blocks},
-    {"--bytes", &tv_options::bytes},         {"--rounds", &tv_options::rounds},
-    {"--conflicts", &tv_options::conflicts}, {"--weight", &tv_options::weight},
+    {"turns", &tv_options::turns},         {"blocks", &tv_options::blocks},
+    {"bytes", &tv_options::bytes},         {"rounds", &tv_options::rounds},
+    {"conflicts", &tv_options::conflicts}, {"weight", &tv_options::weight},
 };
+
+static const Option *knownOption(StringRef Name) {
+  const Option *Found =
+      find_if(Known, [&](const Option &Each) { return Each.Name == Name; });
+  return Found == std::end(Known) ? nullptr : Found;
+}
 
 /// The options that arguments of `tv check` set, `--name value` or
 /// `--name=value`, each at most once. Their ranges are the library's business.
@@ -43,11 +50,11 @@ static Expected<tv_options> optionsOf(ArrayRef<std::string> Words) {
   for (size_t At = 0; At < Words.size(); ++At) {
     StringRef Word = Words[At];
     auto [Name, Value] = Word.split('=');
-    const Option *Set = find_if(
-        Known, [Name = Name](const Option &Each) { return Each.Name == Name; });
-    if (Set == std::end(Known) || !Given.insert(Set).second)
+    const Option *Set =
+        Name.starts_with("--") ? knownOption(Name.drop_front(2)) : nullptr;
+    if (!Set || !Given.insert(Set).second)
       return createStringError("-tv-in-process does not take '" + Word + "'" +
-                               (Set == std::end(Known) ? "" : " twice"));
+                               (Set ? " twice" : ""));
     if (!Word.contains('=')) {
       if (++At == Words.size())
         return createStringError("a value is missing: '" + Word + "'");
@@ -69,8 +76,8 @@ namespace {
 class LibraryChecker : public tv::Checker {
 public:
   LibraryChecker(std::vector<std::string> Arguments, const tv_options &Options)
-      : Checker(std::move(Arguments)), Options(Options), Room(FirstRoom, '\0') {
-  }
+      : Checker(std::move(Arguments), std::numeric_limits<double>::infinity()),
+        Options(Options), Room(FirstRoom, '\0') {}
 
   /// Whether the library takes the options, and writes reports of the form
   /// that is read here.
@@ -99,12 +106,10 @@ private:
   static constexpr unsigned StackBytes = 16 << 20;
 
   Answer ask(const tv::Side &Source, const tv::Side &Target,
-             const tv::Needs &Bounds) override {
+             const tv::Limits &More, double) override {
     tv_options Within = Options;
-    if (Bounds.Blocks)
-      Within.blocks = Bounds.Blocks;
-    if (Bounds.Bytes)
-      Within.bytes = Bounds.Bytes;
+    for (const auto &[Name, Number] : More)
+      Within.*knownOption(Name)->Field = Number;
     Judged Found;
     thread Worker(std::optional<unsigned>(StackBytes),
                   [&] { Found = judged(Source.Text, Target.Text, Within); });

@@ -18,7 +18,7 @@ namespace tv {
 
 /// What is asked of the plugin in this process.
 struct Options {
-  /// Check each pass; without it the plugin only offers the pass tv-lower.
+  /// Check each pass; without it the plugin only offers its own passes.
   bool Check = false;
   /// Call the library in place of starting the program.
   bool InProcess = false;

@@ -1,5 +1,6 @@
 //===- Plugin.cpp - What opt and clang load -------------------------------===//
 
+#include "Causes.h"
 #include "Lowering.h"
 #include "Observer.h"
 #include "llvm/Config/llvm-config.h"
@@ -41,6 +42,14 @@ static bool addPass(StringRef Name, ModulePassManager &Passes,
   return true;
 }
 
+static bool addFunctionPass(StringRef Name, FunctionPassManager &Passes,
+                            ArrayRef<PassBuilder::PipelineElement>) {
+  if (Name != "tv-causes")
+    return false;
+  Passes.addPass(tv::CausesPass());
+  return true;
+}
+
 /// The value, or an end of the compiler: where tv, or what is asked of it,
 /// isn't known, nothing is checked, and that must not look like passes that are
 /// right.
@@ -62,6 +71,7 @@ static std::unique_ptr<tv::Checker> checkerOrExit(const tv::Options &Opts) {
 
 static void registerPlugin(PassBuilder &Builder) {
   Builder.registerPipelineParsingCallback(addPass);
+  Builder.registerPipelineParsingCallback(addFunctionPass);
   tv::Options Opts = valueOrExit(tv::readOptions(), 1);
   PassInstrumentationCallbacks *PIC = Builder.getPassInstrumentationCallbacks();
   if (!Opts.Check || !PIC)

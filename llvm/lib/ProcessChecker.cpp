@@ -74,15 +74,14 @@ class ProcessChecker : public tv::Checker {
 public:
   ProcessChecker(std::string Program, std::vector<std::string> Arguments,
                  double Seconds)
-      : Checker(std::move(Arguments)), Program(std::move(Program)),
-        Seconds(Seconds) {}
+      : Checker(std::move(Arguments), Seconds), Program(std::move(Program)) {}
 
 private:
   Answer ask(const tv::Side &Source, const tv::Side &Target,
-             const tv::Needs &Bounds) override {
+             const tv::Limits &More, double Seconds) override {
     if (Error Failure = Files.write(Source.Text, Target.Text))
       return failed(std::move(Failure));
-    Expected<tv::Done> Done = tv::runProcess(command(Bounds), Seconds);
+    Expected<tv::Done> Done = tv::runProcess(command(More), Seconds);
     if (!Done)
       return failed(Done.takeError());
     if (!Done->Status)
@@ -90,13 +89,11 @@ private:
     return tv::answerOf(*Done->Status, Done->Output, Source, Target);
   }
 
-  std::vector<std::string> command(const tv::Needs &Bounds) const {
+  std::vector<std::string> command(const tv::Limits &More) const {
     // One thread judges one pair.
     std::vector<std::string> Words = {Program, "check", "--workers", "1"};
-    if (Bounds.Blocks)
-      Words.insert(Words.end(), {"--blocks", utostr(Bounds.Blocks)});
-    if (Bounds.Bytes)
-      Words.insert(Words.end(), {"--bytes", utostr(Bounds.Bytes)});
+    for (const auto &[Name, Number] : More)
+      Words.insert(Words.end(), {("--" + Name).str(), utostr(Number)});
     Words.insert(Words.end(), Arguments.begin(), Arguments.end());
     Words.insert(Words.end(),
                  {Files.Before.str().str(), Files.After.str().str()});
@@ -104,7 +101,6 @@ private:
   }
 
   const std::string Program;
-  const double Seconds;
   PairFiles Files;
 };
 

@@ -33,12 +33,10 @@ StringRef tv::countedKind(const Answer &Row, const Written &How) {
   return Row.Kind == "correct" ? "marked" : "alarm";
 }
 
-static std::string boundsOf(const tv::Needs &Bounds) {
+static std::string boundsOf(const tv::Limits &Bounds) {
   std::string Text;
-  if (Bounds.Blocks)
-    Text += "blocks " + utostr(Bounds.Blocks);
-  if (Bounds.Bytes)
-    Text += (Text.empty() ? "bytes " : " bytes ") + utostr(Bounds.Bytes);
+  for (const auto &[Name, Number] : Bounds)
+    Text += (Text.empty() ? "" : " ") + Name.str() + " " + utostr(Number);
   return Text.empty() ? Text : " [" + Text + "]";
 }
 
@@ -63,10 +61,8 @@ void tv::Report::print(const Place &At, const Answer &Row, const Written &How) {
 static json::Object objectOf(const tv::Place &At, const tv::Answer &Row,
                              const tv::Written &How) {
   json::Object Bounds;
-  if (Row.Bounds.Blocks)
-    Bounds["blocks"] = Row.Bounds.Blocks;
-  if (Row.Bounds.Bytes)
-    Bounds["bytes"] = Row.Bounds.Bytes;
+  for (const auto &[Name, Number] : Row.Bounds)
+    Bounds[Name] = Number;
   ArrayRef<std::string> Doubts = doubts(Row.Kind, How);
   json::Object Object{{"file", json::fixUTF8(At.Module)},
                       {"pass", At.Pass},

@@ -32,6 +32,7 @@ LIBRARY = os.path.join(TREE, "crates", "tv_c", "out", "libtv_c.a")
 WRONG = os.path.join(BUILD, "wrong-passes.so")
 PAIRS = os.path.join(HERE, "rules.ll")
 STRANGE = os.path.join(HERE, "strange.ll")
+CAUSES = os.path.join(HERE, "causes.ll")
 CODE = os.path.join(TREE, "bench", "pairs.c")
 OPT, CLANG = "opt-19", "clang-19"
 POSITION = re.compile(r" \d+:\d+")
@@ -143,7 +144,7 @@ def pairs_have_their_rows(bench):
 
 
 def plain(text):
-    """A row or a report without what its correct rows rest on, which the plugin doesn't say."""
+    """A row or a report without what its correct rows rest on, which rules.ll doesn't say."""
     return re.sub(r"^((?:@\S+ )?correct)(?: no bound)?(?: \[[^]]*\])?", r"\1", text, flags=re.M)
 
 
@@ -180,9 +181,9 @@ def same_row_in_both(bench):
     before = bench.write("before.ll", text)
     seen = bench.opt(text, "wrong-alias")
     after = bench.write("after.ll", seen.stdout)
-    row = "@stores correct by align, noalias; fault may hide: arg1:noalias\n"
+    row = "@stores correct [blocks 2 bytes 8] by align, noalias; fault may hide: arg1:noalias\n"
     checked = bench.run(os.path.join(TOOLS, "tv-check"), "--lower", before, after)
-    within(row, plain(checked.stdout), "tv-check")
+    within(row, checked.stdout, "tv-check")
     within(row, seen.stderr, "-tv")
     wrong = bench.opt(text.replace("i8 2", "i8 0").replace("  ret", "  %s = add i8 1, 2\n"
                                    "  store i8 %s, ptr %q\n  ret"), "wrong-sub")
@@ -219,12 +220,12 @@ CONVENTIONS = """define coldcc i8 @cold(i8 %x) {
 def conventions(bench):
     """A calling convention that both functions have marks no row; one that one has alone does."""
     done = bench.opt(CONVENTIONS, "instcombine")
-    within("tv: instcombine @cold correct by header\n", done.stderr, "the row")
+    within("tv: instcombine @cold correct no bound by header\n", done.stderr, "the row")
     before = bench.write("before.ll", CONVENTIONS)
     after = bench.write("after.ll", CONVENTIONS.replace("coldcc ", ""))
     for sides in ((before, after), (after, before)):
         done = bench.run(os.path.join(TOOLS, "tv-check"), "--lower", "--no-trace", *sides)
-        within("@cold correct by header; fault may hide: header:coldcc\n", plain(done.stdout),
+        within("@cold correct no bound by header; fault may hide: header:coldcc\n", done.stdout,
                "tv-check")
 
 
@@ -249,22 +250,52 @@ def lowered_alone(bench):
     equal(done.returncode, 1, "the status then")
 
 
+def all_causes(bench):
+    """tv-causes finds the causes of each comment of causes.ll, and tv refuses just what has one. With
+    tv-lower before it those that are left are found: here of smax none."""
+    with open(CAUSES) as file:
+        wanted = re.findall(r"^; (.*)\ndefine [^@\n]*@(\w+)\(", file.read(), re.M)
+    found = causes_of(bench, "function(tv-causes)")
+    rows = bench.run(bench.tv, "check", CAUSES, CAUSES).stdout
+    for causes, name in wanted:
+        equal(found[name], "" if causes == "none" else causes, f"the causes of @{name}")
+        kind = "correct" if causes == "none" else "refused"
+        equal(re.search(rf"^@{name} (\w+)", rows, re.M).group(1), kind, f"the row of @{name}")
+    equal(len(found), len(wanted), "the functions")
+    after = causes_of(bench, "tv-lower,function(tv-causes)")
+    for name, causes in {"greatest": "", "fields": "aggregate", "attached": "", "header": "",
+                         "copies": "memcpy-64 memmove-large memset-variable"}.items():
+        equal(after[name], causes, f"the causes of @{name} after tv-lower")
+
+
+def causes_of(bench, passes):
+    """The attribute "tv-causes" of each function of causes.ll after these passes."""
+    done = bench.run(OPT, f"-load-pass-plugin={PLUGIN}", f"-passes={passes}", "-S", "-o", "-", CAUSES)
+    equal((done.returncode, done.stderr), (0, ""), f"the status of {passes}")
+    noted = dict(re.findall(r'^attributes (#\d+) = .*"tv-causes"="([^"]*)"', done.stdout, re.M))
+    functions = re.findall(r"^define [^@\n]*@(\w+)\((.*)\{$", done.stdout, re.M)
+    return {name: next((noted[each] for each in re.findall(r"#\d+", rest) if each in noted), "")
+            for name, rest in functions}
+
+
 def one_variable(bench):
     """A variable that both functions, or one of them, name is a parameter of both; two are not."""
     done = bench.opt(VARIABLES, "gvn,wrong-sub", "-tv-keep=kept")
-    within("tv: gvn @loads correct [blocks 1] by global\n", done.stderr, "the row")
-    within("tv: gvn @unread correct [blocks 1] by global\n", done.stderr, "the row of one side")
+    within("tv: gvn @loads correct [blocks 1 bytes 8] by global\n", done.stderr, "the row")
+    within("tv: gvn @unread correct [blocks 1 bytes 8] by global\n", done.stderr,
+           "the row of one side")
     within("tv: SubtractPass @adds incorrect [blocks 1] by global; false alarm possible: @x\n"
            "  @x = given1+0\n", done.stderr, "the counterexample")
-    within("tv: gvn @writes correct [blocks 1] by global; fault may hide: @fixed:constant\n",
-           done.stderr, "the row of a store to a constant")
+    within("tv: gvn @writes correct [blocks 1 bytes 8] by global; "
+           "fault may hide: @fixed:constant\n", done.stderr, "the row of a store to a constant")
     within("tv: gvn @both refused source Unsupported", done.stderr, "the row of two")
     before = bench.write("before.ll", VARIABLES)
     after = bench.write("after.ll", done.stdout)
     checked = bench.run(os.path.join(TOOLS, "tv-check"), "--lower", "--no-trace", before, after)
-    for row in ("@loads correct [blocks 1] by global\n", "@unread correct [blocks 1] by global\n",
+    for row in ("@loads correct [blocks 1 bytes 8] by global\n",
+                "@unread correct [blocks 1 bytes 8] by global\n",
                 "@adds incorrect [blocks 1] by global; false alarm possible: @x\n"):
-        within(plain(row), plain(checked.stdout), "tv-check")
+        within(row, checked.stdout, "tv-check")
     within("@both refused source Unsupported", checked.stdout, "tv-check")
     done = bench.run(bench.tv, "check", "kept/1-adds-SubtractPass.before.ll",
                      "kept/1-adds-SubtractPass.after.ll")
@@ -450,6 +481,177 @@ def lying_tv(bench):
     within("@sum failed reach status 137\n", done.stderr, "the second question")
 
 
+# What a row rests on.
+
+# A tv that judges nothing: it says what FAKE_KIND says, or `unknown weight` or `unknown rounds`
+# where it has less than FAKE_WEIGHT or FAKE_ROUNDS, and appends its limits to FAKE_LOG. It takes
+# FAKE_SLEEP seconds where it is asked again. A target that is undefined everywhere is incorrect.
+FAKE = """#!/usr/bin/env -S python3 -IS
+import os, re, sys, time
+words = sys.argv[1:]
+limits = {"turns": 4, "blocks": 2, "bytes": 8, "rounds": 64, "conflicts": 0, "weight": 100000}
+for at, word in enumerate(words):
+    name, equals, value = word[2:].partition("=")
+    if word.startswith("--") and name in limits:
+        limits[name] = int(value if equals else words[at + 1])
+weight, rounds = limits["weight"], limits["rounds"]
+with open(os.environ["FAKE_LOG"], "a") as log:
+    log.write(f"{weight} {rounds}\\n")
+if weight > 100000 or rounds > 64:
+    time.sleep(float(os.environ.get("FAKE_SLEEP", 0)))
+name = re.search(r"^define .*?(@[\\w.$]+)\\(", open(words[-2]).read(), re.M).group(1)
+vacuous = re.search(r"\\{\\n  unreachable\\n\\}", open(words[-1]).read())
+kind = "incorrect" if vacuous else os.environ["FAKE_KIND"]
+if weight < int(os.environ.get("FAKE_WEIGHT", 0)):
+    kind = "unknown weight"
+elif rounds < int(os.environ.get("FAKE_ROUNDS", 0)):
+    kind = "unknown rounds"
+print("tv 2 " + " ".join(f"{name} {number}" for name, number in limits.items()))
+print(name, kind)
+kinds = ["correct", "incorrect", "unknown", "refused", "signature", "missing", "extra"]
+print(" ".join(f"{each} {int(kind.split()[0] == each)}" for each in kinds))
+sys.exit({"correct": 0, "incorrect": 1}.get(kind, 2))
+"""
+PLAIN = "define i8 @f(i8 %x) {\n  %y = add i8 %x, %x\n  ret i8 %y\n}\n"
+LOOP = """define i8 @f(i8 %x) {
+entry:
+  br label %again
+again:
+  %y = add i8 %x, %x
+  %c = icmp eq i8 %y, 0
+  br i1 %c, label %again, label %end
+end:
+  ret i8 %y
+}
+"""
+
+
+def with_more(line):
+    """PLAIN with one more line before it returns."""
+    return PLAIN.replace("  ret", f"  {line}\n  ret")
+
+
+# A function with `add i8 %x, %x`, and what a correct row of it says.
+RESTS = [
+    ("integers", PLAIN, "no bound", {}),
+    ("a loop", LOOP, "[turns 4]", {"turns": 4}),
+    ("a block that goes to an earlier one, and no cycle", """define i8 @f(i8 %x) {
+  br label %b
+a:
+  ret i8 %y
+b:
+  %y = add i8 %x, %x
+  br label %a
+}
+""", "[turns 4]", {"turns": 4}),
+    ("blocks that go on", with_more("br label %to\nto:"), "no bound", {}),
+    ("a pointer that isn't used", PLAIN.replace("(i8 %x)", "(i8 %x, ptr %p)"),
+     "[blocks 1 bytes 8]", {"blocks": 1, "bytes": 8}),
+    ("a float", PLAIN.replace("(i8 %x)", "(i8 %x, float %z)"), "[blocks 2 bytes 8]",
+     {"blocks": 2, "bytes": 8}),
+    ("a global", "@g = global i8 0\n" + with_more("store i8 0, ptr @g"), "[blocks 2 bytes 8]",
+     {"blocks": 2, "bytes": 8}),
+    ("a call", "declare void @g()\n" + with_more("call void @g()"), "[blocks 2 bytes 8]",
+     {"blocks": 2, "bytes": 8}),
+    ("an integer as a pointer", with_more("%q = inttoptr i8 %y to ptr"), "[blocks 2 bytes 8]",
+     {"blocks": 2, "bytes": 8}),
+    ("a local variable", with_more("%p = alloca i8\n  store i8 %y, ptr %p\n"
+                                   "  %z = load i8, ptr %p"), "no bound", {}),
+    ("a pointer that is loaded", with_more("%p = alloca ptr\n  %q = load ptr, ptr %p"),
+     "[blocks 2 bytes 8]", {"blocks": 2, "bytes": 8}),
+    ("a local variable with an alignment", PLAIN.replace("(i8 %x)", "(i8 %x, ptr %p)").replace(
+        "  ret", "  %q = alloca i64, align 16\n  store i64 1, ptr %q, align 16\n"
+                 "  %z = load i8, ptr %p, align 1\n  ret"),
+     "[blocks 1 bytes 8]", {"blocks": 1, "bytes": 8}),
+    ("null, undef and poison", with_more(
+        "%c = icmp eq ptr null, undef\n  %d = icmp eq ptr null, poison"), "no bound", {}),
+    ("both", LOOP.replace("(i8 %x)", "(i8 %x, ptr %p)"), "[turns 4 blocks 1 bytes 8]",
+     {"turns": 4, "blocks": 1, "bytes": 8})]
+
+
+def fake_tv(bench):
+    """The path of FAKE, and that of its log."""
+    path = bench.write("fake", FAKE)
+    os.chmod(path, 0o755)
+    return path, bench.path("log")
+
+
+def correct_and_bounds(bench):
+    """A correct row says on which bounds it rests, or that it rests on none."""
+    fake, log = fake_tv(bench)
+
+    def rows(text, kind, *words):
+        """The row that is printed, and that of JSON."""
+        done = bench.opt(text, "wrong-flag", "-tv-no-lower", "-tv-report=rows", *words, TV=fake,
+                         FAKE_LOG=log, FAKE_KIND=kind)
+        with open(bench.path("rows")) as file:
+            row = json.loads(file.readline())
+        os.unlink(bench.path("rows"))
+        return done.stderr.splitlines()[0].removeprefix("tv: FlagPass @f "), row
+
+    for what, text, said, bounds in RESTS:
+        line, row = rows(text, "correct")
+        equal(line, f"correct {said}", f"the row of {what}")
+        equal((row["kind"], row["detail"], row["bounds"]),
+              ("correct", "" if bounds else "no bound", bounds), f"the JSON row of {what}")
+    for words, text, said in (("--turns 9", PLAIN, "no bound"), ("--turns 9", LOOP, "[turns 9]"),
+                              ("--turns=+9", LOOP, "[turns 9]"), ("--turns=4", LOOP, "[turns 4]"),
+                              ("--blocks 3 --bytes=20", RESTS[4][1], "[blocks 3 bytes 20]")):
+        equal(rows(text, "correct", "-tv-args=" + words)[0], f"correct {said}",
+              f"the row with {words}")
+    # Other rows have the bounds that aren't tv's own.
+    for words, text, said in (("", LOOP, ""), ("--turns 9", PLAIN, " [turns 9]"),
+                              ("", RESTS[4][1], " [blocks 1]"),
+                              ("--blocks 2", RESTS[4][1], "")):
+        line, row = rows(text, "incorrect", "-tv-args=" + words)
+        equal((line, row["detail"]), (f"incorrect{said}", ""), f"an incorrect row with {words}")
+
+
+def asks_again(bench):
+    """A pair whose weight or rounds ran out is asked again with more while time is left."""
+    fake, log = fake_tv(bench)
+    once, more = "100000 64", "1000000 64"
+    cases = [
+        ("a row that more weight decides", "", {"FAKE_KIND": "incorrect", "FAKE_WEIGHT": "500000"},
+         "incorrect [weight 1000000]", [once, more]),
+        ("a correct one, and its reach", "", {"FAKE_KIND": "correct", "FAKE_WEIGHT": "500000"},
+         "correct no bound [weight 1000000]", [once, more, more]),
+        ("rounds", "", {"FAKE_KIND": "incorrect", "FAKE_ROUNDS": "1000"},
+         "incorrect [rounds 4096]", [once, "100000 640", "100000 4096"]),
+        ("both", "", {"FAKE_KIND": "incorrect", "FAKE_WEIGHT": "500000", "FAKE_ROUNDS": "100"},
+         "incorrect [weight 1000000 rounds 640]", [once, more, "1000000 640"]),
+        ("a row that stays", "", {"FAKE_KIND": "correct", "FAKE_WEIGHT": "9000000"},
+         "unknown weight", [once, more]),
+        ("weight is enough, rounds are not", "",
+         {"FAKE_KIND": "correct", "FAKE_WEIGHT": "500000", "FAKE_ROUNDS": "9000"},
+         "unknown weight", [once, more, "1000000 640", "1000000 4096"]),
+        ("what isn't asked again", "", {"FAKE_KIND": "unknown conflicts"}, "unknown conflicts",
+         [once]),
+        ("rounds that are given, and weight", "--rounds 70",
+         {"FAKE_KIND": "correct", "FAKE_WEIGHT": "500000"},
+         "correct no bound [weight 1000000]", ["100000 70", "1000000 70", "1000000 70"])]
+    for words in ("--weight 200000", "--weight=200000", "--weight +200000", "--weight=+200000"):
+        cases.append((f"the user's {words}", words,
+                      {"FAKE_KIND": "correct", "FAKE_WEIGHT": "500000"}, "unknown weight",
+                      ["200000 64"]))
+    for how in ([], ["-tv-in-process"]):
+        for what, words, fakes, said, asked in cases:
+            bench.write("log", "")
+            done = bench.opt(PLAIN, "wrong-flag", f"-tv-args={words}", *how,
+                             plugin=STAND_IN if how else PLUGIN, TV=fake, FAKE_LOG=log, **fakes)
+            equal(done.stderr.splitlines()[0], f"tv: FlagPass @f {said}", f"{what} {how}")
+            with open(log) as file:
+                equal(file.read().splitlines(), asked, f"what is asked: {what} {how}")
+    done = bench.opt(PLAIN, "wrong-flag", TV=fake, FAKE_LOG=log, FAKE_KIND="correct",
+                     FAKE_WEIGHT="500000", TV_ARGS="--weight 5")
+    within("tv: FlagPass @f unknown weight\n", done.stderr, "the weight of TV_ARGS")
+    begun = time.monotonic()
+    done = bench.opt(PLAIN, "wrong-flag", "-tv-seconds=3", TV=fake, FAKE_LOG=log,
+                     FAKE_KIND="correct", FAKE_WEIGHT="500000", FAKE_SLEEP="60")
+    within("tv: FlagPass @f unknown weight\n", done.stderr, "a row that is out of time")
+    equal(time.monotonic() - begun < 30, True, "the time then")
+
+
 def marked_rows_have_their_kind(bench):
     """A marked row is counted apart, is printed by -tv-quiet, kept, and doesn't end the compiler."""
     done = bench.opt(STORES, "wrong-alias", "-tv-quiet", "-tv-keep=kept", "-tv-report=rows")
@@ -607,7 +809,8 @@ def strange_code(bench):
 
 
 CASES = [pairs_have_their_rows, pairs_are_the_same_backwards, same_row_in_both, lowered_alone,
-         one_variable, conventions,
+         correct_and_bounds, asks_again,
+         all_causes, one_variable, conventions,
          layouts, wrong_pass_is_found, flags_alone_are_seen, module_pass_is_seen,
          only_named_functions, what_is_reached_is_seen, lying_tv,
          marked_rows_have_their_kind, exits_on_error, report_is_read_by_baseline, pairs_are_kept, slow_pair, failing_tv,

@@ -15,8 +15,10 @@ use Rattle.verdicts.specs.declared.verdict.Kept.{Kept}
 use Rattle.pair_questions.specs.Questions.{IsUncovered, IsCovering, IsRefuted, IsSpentOn, point_widths, tape_widths}
 use Rattle.verdicts.specs.Weight.{IsHeavy}
 use Rattle.instantiate.specs.declared.rounds.Trail.{Trail}
-use Rattle.instantiate.specs.Rounds.{IsTrail}
+use Rattle.instantiate.specs.declared.rounds.End.{End}
+use Rattle.instantiate.specs.Rounds.{IsRound, IsTrail}
 use Rattle.instantiate.specs.Settling.{ComesWith, IsJudged, IsSpentNext, IsTrailSoFar, limit_of}
+use Rattle.pair_questions.specs.PointQuestions.{IsPointQuestion}
 use Rattle.pair_questions.specs.declared.subject.Subject.{Subject}
 
 module _ (pair : RunPair) (bounds : Bounds) (budget : Budget) where
@@ -149,3 +151,18 @@ judged pair bounds budget kept cert (Unknown Weight) light h = absurd h
 
 pub grown_of : (s : Subject) (budget : Budget) (t : Trail) → IsTrail s budget t → IsGrown s.pair.now s.bounds.now budget t.question.tapes t.points.items
 grown_of s budget t h = record { count = h.count; trail = h.trail; within = h.within }
+
+-- ---- a trail whose question was answered
+
+pub trail_asked : (s : Subject) (budget : Budget) (t t' : Trail) → IsTrail s budget t → t'.points.items ≡ t.points.items → t'.question.tapes ≡ t.question.tapes → t'.question.limit ≡ t.question.limit → IsPointQuestion s t'.question → IsTrail s budget t'
+trail_asked s budget t t' h points tapes limit question = record {
+  count = rw (points, tapes) h.count;
+  trail = rw (points, tapes) h.trail;
+  within = rw tapes h.within;
+  question = question;
+  limit = limit ∙ h.limit;
+}
+
+pub round_asked : (s : Subject) (budget : Budget) (t t' after : Trail) (o : Option End) → t'.question.tapes ≡ t.question.tapes → IsRound s budget t' after o → IsRound s budget t after o
+round_asked s budget t t' after None tapes h = (h.0, h.1 ∙ ap (λ (ts : List (List ℕ)). length ts + 1) tapes)
+round_asked s budget t t' after (Some e) tapes h = h

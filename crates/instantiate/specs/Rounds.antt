@@ -7,7 +7,7 @@ use Rattle.pair_questions.specs.declared.subject.Subject.{Subject}
 use Rattle.pair_questions.specs.PointQuestions.{IsPointQuestion}
 use Rattle.instantiate.specs.declared.rounds.Trail.{Trail}
 use Rattle.instantiate.specs.declared.rounds.End.{End}
-use Rattle.instantiate.specs.Settling.{ComesWith}
+use Rattle.instantiate.specs.Settling.{ComesWith, limit_of}
 
 abbrev pub kept_in : Trail → Kept
 kept_in t = record { tapes = t.question.tapes; points = t.points.items }
@@ -17,6 +17,7 @@ pub record IsTrail (s : Subject) (budget : Budget) (t : Trail) : Type 0 where
   pub trail : TrailFrom s.pair.now s.bounds.now [] t.question.tapes t.points.items
   pub within : length t.question.tapes ≤ budget.rounds
   pub question : IsPointQuestion s t.question
+  pub limit : t.question.limit ≡ limit_of budget.conflicts
 
 -- a round adds a tape, or ends the trail with a verdict and what comes with it
 abbrev pub IsRound : Subject → Budget → Trail → Trail → Option End → Type 0

@@ -49,11 +49,11 @@ fn limit_in(budget: &Budget) -> Option<u64>
 
 impl Trail {
     /// The trail without a point. The only error is out of memory.
-    pub fn new(alloc: Global, subject: &Subject) -> Result<Trail, NoMemory>
+    pub fn new(alloc: Global, subject: &Subject, budget: &Budget) -> Result<Trail, NoMemory>
         requires { IsSubject subject.now }
-        ensures { IfOk result (λ trail. (budget : Budget) → IsTrail subject.now budget trail) }
+        ensures { IfOk result (IsTrail subject.now budget.now) }
     {
-        let question = PointQuestion::new(alloc, subject)?;
+        let question = PointQuestion::new(alloc, subject, limit_in(budget))?;
         Ok(Trail {
             question,
             points: Vec::new(alloc),
@@ -133,7 +133,7 @@ impl Trail {
         requires trail { IsTrail subject.now budget.now self.old }
         ensures { IfOk result (IsRound subject.now budget.now self.old self.new) }
     {
-        match self.question.least(alloc, subject, limit_in(budget))? {
+        match self.question.least(alloc, subject)? {
             Found::Least(point) => self.answer(alloc, subject, budget, point),
             Found::None(cert) => Ok(Some(End {
                 verdict: Verdict::Correct,

@@ -33,7 +33,7 @@ fn grow(alloc: Global, subject: &Subject, budget: &Budget) -> Result<Settled, No
     requires { IsSubject subject.now }
     ensures { IfOk result (IsTold subject.now.pair.now subject.now.bounds.now budget.now) }
 {
-    let mut trail = Trail::new(alloc, subject)?;
+    let mut trail = Trail::new(alloc, subject, budget)?;
     loop {
         if let Some(end) = trail.round(alloc, subject, budget)? {
             return Ok(settled(trail.into_kept(), end));
@@ -60,7 +60,7 @@ fn told_of(
 }
 
 /// The verdict on a pair of functions, with the trail that led to it. Each round asks for the least
-/// point that neither a shift of its tape nor a tape of the trail covers, and then for the least
+/// point that neither a candidate nor a tape of the trail covers, and then for the least
 /// tape of the source that covers it, as in counterexample-guided instantiation of quantifiers; the
 /// two quantifiers are those of refinement as Alive2 defines it (PLDI 2021). `correct` and
 /// `incorrect` come with a refutation of the last question. `unknown weight` is the answer, before

@@ -59,18 +59,22 @@ pub use Rattle.refine_terms.specs.Deciding.{Decides}
 pub use Rattle.refine_terms.specs.Numbers.{IsInputOf, IsTapeOf, numbers_at, arg_numbers, byte_numbers, block_numbers}
 pub use Rattle.sat_ask.proofs.Marking.{tree_placed}
 pub use Rattle.sat_ask.specs.Questions.{HasAll, Mentions, variable_of, assigned_by, digit_count, goal_test, variables_of, AreDifferent, IsVariable}
-pub use Rattle.verdicts.specs.Covers.{shifted, is_covered, words_of}
-unfoldable pub use Rattle.verdicts.specs.Covers.{covers, some_covers}
+pub use Rattle.candidate_runs.proofs.Tried.{tried_split}
+pub use Rattle.candidate_runs.specs.Candidates.{AreTemplates, function_of, integer_count, NoneCovers, CoversAt, tape_of, tapes_of}
+pub use Rattle.candidate_runs.specs.declared.candidate.Candidate.{Candidate}
+pub use Rattle.candidate_runs.specs.declared.candidate.TheConstants.{SHIFTS}
+pub use Rattle.verdicts.specs.Covers.{integer, tried, is_covered, words_of}
+unfoldable pub use Rattle.verdicts.specs.Covers.{covers, some_covers, integers}
 pub use Rattle.verdicts.specs.Pair.{RunPair, layout_of, same_types, same_return, same_signature}
 pub use Rattle.verdicts.specs.Trail.{IsPoint, AreAllCovered, IsLeastUncovered}
-pub use Rattle.pair_questions.specs.Candidates.{AreSameTapes, AreTapes, input_in, outcome_in, tapes_at, IsTrial}
+pub use Rattle.pair_questions.specs.Candidates.{AreSameTapes, AreTapes, input_in, outcome_in, tapes_at, IsTrial, words_of_each}
 unfoldable pub use Rattle.pair_questions.specs.Candidates.{none_allows}
 pub use Rattle.pair_questions.specs.Encodables.{IsEncodable, encoded_of}
 pub use Rattle.pair_questions.specs.Numbers.{AsksNumbers, looked_up, number_test, IsFoundNumbers, IsRefutedTest, IsSpentTest}
 pub use Rattle.pair_questions.specs.Orders.{AreNumbered, IsNumbered, IsOrder}
-pub use Rattle.pair_questions.specs.Questions.{IsUncovered, args_widths, blocks_widths, places_widths, point_widths, tape_widths, value_widths, IsCovering, AsksFor, IsFoundCode, IsFoundTape, IsLeastCode, IsRefuted, IsSpentOn}
+pub use Rattle.pair_questions.specs.Questions.{IsUncovered, args_widths, blocks_widths, places_widths, point_widths, tape_widths, value_widths, IsCovering, AsksFor, IsFoundCode, IsFoundTape, IsLeastCode, IsRefuted, IsSpentOn, IsMissed, IsLeastMissed, IsFoundMissed, IsFoundPoint}
+pub use Rattle.pair_questions.specs.PointQuestions.{AreAllCandidates, IsPointQuestion, IsQuestionOf}
+pub use Rattle.pair_questions.specs.PointTermsOf.{ArePointTerms}
 pub use Rattle.pair_questions.specs.Shapes.{IsShapeOf, arg_ids, byte_ids, input_ids, nameable}
 pub use Rattle.pair_questions.specs.Subjects.{IsOfTarget, IsSubject}
-pub use Rattle.pair_questions.specs.Tapes.{shift_of}
-pub use Rattle.pair_questions.specs.declared.tapes.Shift.{Shift}
-pub use Rattle.pair_questions.specs.declared.tapes.TheConstants.{SHIFTS}
+pub use Rattle.pair_questions.specs.Tapes.{integer_at, integers_at}

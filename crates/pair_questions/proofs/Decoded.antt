@@ -1,5 +1,5 @@
 -- Numbers that are the code of a point give its input and its tape back.
-use Rattle.pair_questions.proofs.Common.{ℕ, zero, suc, ◌≡◌, ◌+◌, ◌≤◌, true, false, nat_eq, if◌then◌else◌, List, [], ◌∷◌, ◌++◌, length, map, refl, ap, sym, ◌∙◌, arith, append_assoc, flat_map, map-append, IrType, Parameter, BlockName, Null, Given, Local, Ptr, Value, Byte, MemoryBlock, Layout, Input, Point, Shape, BlockFits, PointerFits, ValueFits, ArgsFit, ByteFits, BytesFit, BlocksFit, IsOfShape, name_digit, value_code, args_code, byte_code, places_code, blocks_code, code_of, blocks_count, sizes_of, TermId, Term, truth, term_at, ArgTerms, ByteTerms, InputTerms, TapeTerms, Each, block_name, reading, value_from, value_of, byte_of, IsArg, AreArgs, IsBlockTerms, arg_at, args_at, given_block_at, given_blocks_at, given_byte_at, input_at, words_at, defined-apart, map-length, given_named, IsInputOf, arg_numbers, byte_numbers, block_numbers, numbers_at, arg_ids, byte_ids, input_ids}
+use Rattle.pair_questions.proofs.Common.{ℕ, zero, suc, ◌≡◌, ◌+◌, ◌≤◌, true, false, nat_eq, if◌then◌else◌, List, [], ◌∷◌, ◌++◌, length, map, refl, ap, sym, ◌∙◌, arith, append_assoc, flat_map, map-append, IrType, Parameter, BlockName, Null, Given, Local, Ptr, Value, Byte, MemoryBlock, Layout, Input, Point, Shape, BlockFits, PointerFits, ValueFits, ArgsFit, ByteFits, BytesFit, BlocksFit, IsOfShape, name_digit, value_code, args_code, byte_code, places_code, blocks_code, code_of, blocks_count, sizes_of, TermId, Term, truth, term_at, ArgTerms, ByteTerms, InputTerms, TapeTerms, Each, block_name, reading, value_from, value_of, byte_of, IsArg, AreArgs, IsBlockTerms, arg_at, args_at, given_block_at, given_blocks_at, given_byte_at, input_at, words_at, defined-apart, map-length, given_named, IsInputOf, arg_numbers, byte_numbers, block_numbers, numbers_at, arg_ids, byte_ids, input_ids, integer, integers, integer_at, integers_at}
 use Rattle.std.proofs.Math.Dec.{eqb-suc-zero}
 use Rattle.ir_tree.specs.declared.tree.IrType.TheVariants as type
 use Rattle.ir_tree.specs.Pointers.{IsInteger}
@@ -91,6 +91,56 @@ module _ (v : ℕ → ℕ → ℕ) (terms : List Term) (layout : Layout) where
   args_decoded (p ∷ ps) [] args rest others h are e = absurd h
   args_decoded [] [] (a ∷ more) rest others h are e = absurd are
   args_decoded (p ∷ ps) (x ∷ xs) [] rest others h are e = absurd are
+
+-- ---- the numbers of the integer arguments
+
+int_number : (layout : Layout) (t : IrType) (x : Value) (flag number : ℕ) (rest others : List ℕ) → IsInteger t → ValueFits layout t x → (value_code layout t x ++ rest) ≡ (flag ∷ number ∷ others) → (integer t x ≡ number ∷ []) × (rest ≡ others)
+int_number layout (type.Int w) (value.Num n) flag number rest others i h e =
+    let m : n ≡ number = cc in
+    let r : rest ≡ others = cc in
+    ((rw m refl), r)
+int_number layout (type.Int w) value.Poison flag number rest others i h e =
+    let m : 0 ≡ number = cc in
+    let r : rest ≡ others = cc in
+    ((rw m refl), r)
+int_number layout (type.Int w) (value.Ptr p) flag number rest others i h e = absurd h
+int_number layout type.Ptr x flag number rest others i h e = absurd i
+
+ptr_number : (layout : Layout) (x : Value) (flag block offset : ℕ) (rest others : List ℕ) → ValueFits layout type.Ptr x → (value_code layout type.Ptr x ++ rest) ≡ (flag ∷ block ∷ offset ∷ others) → (integer type.Ptr x ≡ []) × (rest ≡ others)
+ptr_number layout (value.Ptr p) flag block offset rest others h e = let r : rest ≡ others = cc in (refl, r)
+ptr_number layout value.Poison flag block offset rest others h e = let r : rest ≡ others = cc in (refl, r)
+ptr_number layout (value.Num n) flag block offset rest others h e = absurd h
+
+joined : (a b c d : List ℕ) → a ≡ b → c ≡ d → a ++ c ≡ b ++ d
+joined a b c d e f = rw (e, f) refl
+
+module _ (v : ℕ → ℕ → ℕ) (terms : List Term) (layout : Layout) where
+  arg_number : (t : IrType) (x : Value) (a : ArgTerms) (rest others : List ℕ) → ValueFits layout t x → IsArg terms t a → (value_code layout t x ++ rest) ≡ (arg_numbers v terms a ++ others) → (integer t x ≡ integer_at v terms a) × (rest ≡ others)
+  arg_number (type.Int w) x (arg.Int flag number) rest others h is e = int_number layout (type.Int w) x (term_at v terms flag) (term_at v terms number) rest others tt h e
+  arg_number type.Ptr x (arg.Ptr flag block offset) rest others h is e = ptr_number layout x (term_at v terms flag) (term_at v terms block) (term_at v terms offset) rest others h e
+  arg_number (type.Int w) x (arg.Ptr flag block offset) rest others h is e = absurd is
+  arg_number type.Ptr x (arg.Int flag number) rest others h is e = absurd is
+
+  args_integers : (ps : List Parameter) (xs : List Value) (args : List ArgTerms) (rest others : List ℕ) → ArgsFit layout ps xs → AreArgs terms ps args → (args_code layout ps xs ++ rest) ≡ (flat_map (arg_numbers v terms) args ++ others)
+      → integers ps xs ≡ integers_at v terms args
+  unfolding integers
+  args_integers [] [] [] rest others h are e = refl
+  args_integers (p ∷ ps) (x ∷ xs) (a ∷ more) rest others h are e =
+      let e' = regrouped (value_code layout p.of_type x) (args_code layout ps xs) rest (arg_numbers v terms a) (flat_map (arg_numbers v terms) more) others e in
+      let here = arg_number p.of_type x a (args_code layout ps xs ++ rest) (flat_map (arg_numbers v terms) more ++ others) h.0 are.0 e' in
+      joined (integer p.of_type x) (integer_at v terms a) (integers ps xs) (integers_at v terms more) here.0 (args_integers ps xs more rest others h.1 are.1 here.1)
+  args_integers [] (x ∷ xs) args rest others h are e = absurd h
+  args_integers (p ∷ ps) [] args rest others h are e = absurd h
+  args_integers [] [] (a ∷ more) rest others h are e = absurd are
+  args_integers (p ∷ ps) (x ∷ xs) [] rest others h are e = absurd are
+
+-- of a point whose code the terms denote
+pub integers_decoded : (v : ℕ → ℕ → ℕ) (terms : List Term) (s : Shape) (input : InputTerms) (tape : TapeTerms) (p : Point) → IsInputOf s terms input → IsOfShape s p
+    → code_of s.layout s.parameters p ≡ numbers_at v terms input tape → integers s.parameters p.input.args ≡ integers_at v terms input.args
+integers_decoded v terms s input tape p h of_shape e =
+    let sizes = map (term_at v terms) input.sizes in
+    let places = flat_map (block_numbers v terms) input.places in
+    args_integers v terms s.layout s.parameters p.input.args input.args (blocks_code s.layout p.input.blocks ++ p.tape) (sizes ++ (places ++ words_at v terms tape.words)) of_shape.args h.args e
 
 -- ---- bytes
 
@@ -197,9 +247,6 @@ block_numbered : (v : ℕ → ℕ → ℕ) (terms : List Term) (places : List By
 block_numbered v terms [] = refl
 block_numbered v terms (b ∷ rest) =
     ap (λ ns. term_at v terms b.kind ∷ term_at v terms b.mask ∷ term_at v terms b.number ∷ term_at v terms b.block ∷ term_at v terms b.offset ∷ term_at v terms b.part ∷ ns) (block_numbered v terms rest)
-
-joined : (a b c d : List ℕ) → a ≡ b → c ≡ d → (a ++ c) ≡ (b ++ d)
-joined a b c d e f = cc
 
 blocks_numbered : (v : ℕ → ℕ → ℕ) (terms : List Term) (places : List (List ByteTerms)) → map (term_at v terms) (flat_map (flat_map byte_ids) places) ≡ flat_map (block_numbers v terms) places
 blocks_numbered v terms [] = refl

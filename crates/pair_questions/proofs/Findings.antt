@@ -1,5 +1,7 @@
 -- What is found of numbers is found of points and of tapes.
-use Rattle.pair_questions.proofs.Common.{◌≡◌, ◌↔◌, ℕ, ◌+◌, ◌<◌, inl, inr, Bool, true, false, List, [], ◌++◌, map, Option, Some, refl, sym, ap, subst, ◌∙◌, arith, cases_Bool, Layout, TermId, Term, AreFit, term_at, Cnf, Bounds, Point, Shape, RunPair, layout_of, IsOfShape, code_of, number_of, IsCode, covers, is_covered, need_of, AreAllCovered, IsLeastUncovered, IsPoint, codes_tell_points, Fits, IsLeast, NonePass, numbers_of, fits-numbers, InputTerms, TapeTerms, words_at, Decides, numbers_at, AreSmall, AsksNumbers, IsFoundNumbers, IsRefutedTest, IsSpentTest, looked_up, number_test, AreNumbered, AsksFor, IsCovering, IsFoundCode, IsFoundTape, IsLeastCode, IsRefuted, IsSpentOn, IsUncovered, point_widths, tape_widths, IsShapeOf, input_ids}
+use Rattle.pair_questions.proofs.Common.{◌≡◌, ◌↔◌, ℕ, ◌+◌, ◌<◌, inl, inr, Bool, true, false, List, [], ◌++◌, map, Option, Some, refl, sym, ap, subst, ◌∙◌, arith, cases_Bool, Layout, TermId, Term, AreFit, term_at, Cnf, Bounds, Point, Shape, RunPair, layout_of, IsOfShape, code_of, number_of, IsCode, covers, is_covered, need_of, AreAllCovered, IsLeastUncovered, IsPoint, codes_tell_points, Fits, IsLeast, NonePass, numbers_of, fits-numbers, InputTerms, TapeTerms, words_at, Decides, numbers_at, AreSmall, AsksNumbers, IsFoundNumbers, IsRefutedTest, IsSpentTest, looked_up, number_test, AreNumbered, AsksFor, IsCovering, IsFoundCode, IsFoundTape, IsLeastCode, IsRefuted, IsSpentOn, IsUncovered, point_widths, tape_widths, IsShapeOf, input_ids, ◌||◌, some_covers, tried, tapes_of, NoneCovers, Candidate, AreAllCandidates, IsMissed, IsLeastMissed, IfSome}
+use Rattle.std.proofs.lemmas.Bool.{true≢false}
+use Rattle.candidate_runs.proofs.Tried.{some_append}
 use Rattle.std.proofs.Common.{slice_index}
 use Rattle.clause_log.specs.declared.step.Cert.{Cert}
 use Rattle.pair_questions.specs.declared.found.Found.{Found}
@@ -33,8 +35,54 @@ module _ (test : List ℕ → Bool) (widths : List ℕ) (Answer : List ℕ → T
 
 -- ---- points
 
-module _ (pair : RunPair) (bounds : Bounds) (s : Shape) (is : IsShapeOf pair bounds s) (small : AreSmall bounds) (tapes : List (List ℕ)) (test : List ℕ → Bool)
-    (passes : Passes test (point_widths pair bounds) (IsUncovered pair bounds tapes)) where
+both_false : (a b c : Bool) → a ≡ false → b ≡ false → c ≡ false → ((a || b) || c) ≡ false
+both_false a b c e f g = rw (e, f, g) refl
+
+-- either of these, or not
+by_first : (a b c : Bool) → a ≡ true → ((a || b) || c) ≡ true
+by_first a b c e = rw e refl
+
+by_last : (a b c : Bool) → c ≡ true → ((a || b) || c) ≡ true
+by_last true b c e = refl
+by_last false true c e = refl
+by_last false false c e = e
+
+not_first : (a b c : Bool) → ((a || b) || c) ≡ false → a ≡ false
+not_first true b c e = e
+not_first false b c e = refl
+
+not_last : (a b c : Bool) → ((a || b) || c) ≡ false → c ≡ false
+not_last true b c e = absurd (let z : ⊥ = cc in z)
+not_last false true c e = absurd (let z : ⊥ = cc in z)
+not_last false false c e = e
+
+module _ (pair : RunPair) (bounds : Bounds) (front left : List Candidate) (tapes : List (List ℕ)) (all : AreAllCandidates pair bounds front left) where
+  abbrev In : Point → Bool
+  In p = some_covers pair bounds p (tapes_of pair bounds p front)
+
+  abbrev Out : Point → Bool
+  Out p = some_covers pair bounds p (tapes_of pair bounds p left)
+
+  abbrev By : Point → Bool
+  By p = some_covers pair bounds p tapes
+
+  pub covered_is : (p : Point) → IsPoint pair bounds p → is_covered pair bounds tapes p ≡ ((In p || Out p) || By p)
+  covered_is p h = some_append pair bounds p (tried pair bounds p) tapes ∙ ap (λ b. b || By p) (all p h)
+
+  -- a point that no candidate covers, in the goal or left
+  pub least_of_all : (p : Point) → NoneCovers pair bounds p left → IsLeastMissed pair bounds front tapes p → IsLeastUncovered pair bounds tapes p
+  least_of_all p none h = record { point = h.point; uncovered = covered_is p h.point ∙ both_false (In p) (Out p) (By p) h.by_candidate none h.by_tape; least = h.least }
+
+  pub missed_uncovered : ((p : Point) → NoneCovers pair bounds p left) → (numbers : List ℕ) → IsMissed pair bounds front tapes numbers → IsUncovered pair bounds tapes numbers
+  missed_uncovered none numbers u = record { of = u.of; point = u.point; code = u.code; uncovered = covered_is u.of u.point ∙ both_false (In u.of) (Out u.of) (By u.of) u.by_candidate (none u.of) u.by_tape }
+
+  pub uncovered_missed : (numbers : List ℕ) → IsUncovered pair bounds tapes numbers → IsMissed pair bounds front tapes numbers
+  uncovered_missed numbers u =
+      let apart = sym (covered_is u.of u.point) ∙ u.uncovered in
+      record { of = u.of; point = u.point; code = u.code; by_candidate = not_first (In u.of) (Out u.of) (By u.of) apart; by_tape = not_last (In u.of) (Out u.of) (By u.of) apart }
+
+module _ (pair : RunPair) (bounds : Bounds) (s : Shape) (is : IsShapeOf pair bounds s) (small : AreSmall bounds) (front left : List Candidate) (tapes : List (List ℕ)) (all : AreAllCandidates pair bounds front left) (test : List ℕ → Bool)
+    (passes : Passes test (point_widths pair bounds) (IsMissed pair bounds front tapes)) where
   abbrev code : Point → List ℕ
   code p = code_of (layout_of pair bounds) pair.target.parameters p
 
@@ -46,12 +94,24 @@ module _ (pair : RunPair) (bounds : Bounds) (s : Shape) (is : IsShapeOf pair bou
   refused q h fails = elim (cases_Bool (is_covered pair bounds tapes q)) [
     | inl covered ↦ covered
     | inr uncovered ↦
-        let passed : test (code q) ≡ true = (passes (code q) (fits q h)).1 (record { of = q; point = h; code = refl; uncovered = uncovered }) in
+        let passed : test (code q) ≡ true = (passes (code q) (fits q h)).1 (uncovered_missed pair bounds front left tapes all (code q) (record { of = q; point = h; code = refl; uncovered = uncovered })) in
         absurd (let z : ⊥ = cc in z)
   ]
 
   all_covered : NonePass test (point_widths pair bounds) → AreAllCovered pair bounds tapes
   all_covered none q h = refused q h (none (code q) (fits q h))
+
+  -- where no numbers pass, the clauses ask for the uncovered points too: there are none either way
+  asks_for_none : NonePass test (point_widths pair bounds) → (cnf : Cnf) → AsksNumbers test (point_widths pair bounds) cnf → AsksFor (IsUncovered pair bounds tapes) (point_widths pair bounds) cnf
+  asks_for_none none cnf h = record {
+    test = h.of_digits;
+    asks = h.asks;
+    means = λ digits long.
+        let fails : h.of_digits digits ≡ false = h.means digits long ∙ none (numbers_of (point_widths pair bounds) digits) (fits-numbers (point_widths pair bounds) digits long) in (
+          (λ p. let z : true ≡ false = sym p ∙ fails in absurd (true≢false z)),
+          (λ u. let z : true ≡ false = sym (all_covered none u.of u.point) ∙ u.uncovered in absurd (true≢false z)),
+        );
+  }
 
   -- a code of the shape is the code of one point
   one_point : (digits : List ℕ) (p q : Point) → IsOfShape s p → IsOfShape s q → code_of s.layout s.parameters p ≡ digits → code_of s.layout s.parameters q ≡ digits → p ≡ q
@@ -63,24 +123,35 @@ module _ (pair : RunPair) (bounds : Bounds) (s : Shape) (is : IsShapeOf pair bou
   shape_code : (p : Point) → code_of s.layout s.parameters p ≡ code p
   shape_code p = ap (λ (y : Layout). code_of y s.parameters p) is.layout ∙ ap (λ ps. code_of (layout_of pair bounds) ps p) is.parameters
 
-  least_point : (digits : List ℕ) → IsLeast test (point_widths pair bounds) digits → IsLeastCode pair bounds s tapes digits
+  least_point : (digits : List ℕ) → IsLeast test (point_widths pair bounds) digits → IsLeastCode pair bounds s front tapes digits
   least_point digits least =
       let u = (passes digits least.fits).0 least.passes in
       let shaped = of_shape pair bounds s is u.of u.point in
       let coded : code_of s.layout s.parameters u.of ≡ digits = shape_code u.of ∙ u.code in
       record {
         of_shape = subst (λ (ds : List ℕ). IsCode s ds) coded ((codes_tell_points s).codes u.of shaped);
-        least = λ p of_p e. subst (λ (q : Point). IsLeastUncovered pair bounds tapes q) (one_point digits u.of p shaped of_p coded e) (record {
+        least = λ p of_p e. subst (λ (q : Point). IsLeastMissed pair bounds front tapes q) (one_point digits u.of p shaped of_p coded e) (record {
           point = u.point;
-          uncovered = u.uncovered;
+          by_candidate = u.by_candidate;
+          by_tape = u.by_tape;
           least = λ q h lt. refused q h (least.least (code q) (fits q h) (subst (λ ds. number_of (code q) < number_of ds) u.code lt));
         });
       }
 
-  pub found_code : (limit : Option ℕ) (found : Found (List ℕ)) → IsFoundNumbers test (point_widths pair bounds) limit found → IsFoundCode pair bounds s tapes limit found
-  found_code limit (found.Least digits) h = least_point digits h
-  found_code limit (found.None cert) h = (all_covered h.0, refuted_for test (point_widths pair bounds) (IsUncovered pair bounds tapes) passes cert h.1)
-  found_code limit (found.Spent cert) h = spent_for test (point_widths pair bounds) (IsUncovered pair bounds tapes) passes limit cert h
+  -- under a limit no candidate is left
+  whole_passes : left ≡ [] → Passes test (point_widths pair bounds) (IsUncovered pair bounds tapes)
+  unfolding some_covers
+  whole_passes e numbers within =
+      let none : (p : Point) → NoneCovers pair bounds p left = λ p. rw e refl in
+      let both = passes numbers within in
+      ((λ p. missed_uncovered pair bounds front left tapes all none numbers (both.0 p)), (λ u. both.1 (uncovered_missed pair bounds front left tapes all numbers u)))
+
+  pub found_code : (limit : Option ℕ) → IfSome limit (λ n. (0 < n) × (left ≡ [])) → (found : Found (List ℕ)) → IsFoundNumbers test (point_widths pair bounds) limit found → IsFoundCode pair bounds s front tapes limit found
+  found_code limit whole (found.Least digits) h = least_point digits h
+  found_code limit whole (found.None cert) h = (all_covered h.0, record { asks = asks_for_none h.0 cert.cnf h.1.asks; refutes = h.1.refutes; careful = h.1.careful; small = h.1.small })
+  found_code limit whole (found.Spent cert) h =
+      let none : (0 < h.0) × (left ≡ []) = rw h.1 at whole in
+      spent_for test (point_widths pair bounds) (IsUncovered pair bounds tapes) (whole_passes none.1) limit cert h
 
 -- ---- tapes
 

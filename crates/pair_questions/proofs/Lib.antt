@@ -13,6 +13,9 @@ mod Moved
 mod Numbered
 mod Ordered
 mod SameTapes
-mod Shifting
+mod Integers
+mod Joining
+mod Listing
+mod Missed
 mod Trying
 mod Uncovering

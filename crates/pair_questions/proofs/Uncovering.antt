@@ -1,10 +1,10 @@
 -- The goals of the two questions are true exactly on their answers.
-use Rattle.pair_questions.proofs.Common.{ℕ, ◌≡◌, ◌↔◌, Bool, true, false, not, ◌&&◌, ◌||◌, List, [], ◌∷◌, ◌++◌, length, append-nil, refl, ap, sym, subst, ◌∙◌, flat_map, eqb-true, IrType, Int, Parameter, Function, Layout, Bounds, Input, Point, Shape, Outcome, RunPair, same_types, same_return, same_signature, layout_of, WordsFit, IsOfShape, code_of, IsCode, covers, some_covers, shifted, is_covered, is_refined, run_of, IsPlain, need_of, IsPoint, codes_tell_points, TermId, Term, AreInRange, IsTerm, Keeps, Tests, bit_at, term_at, ArgTerms, ByteTerms, InputTerms, TapeTerms, OutcomeTerms, Each, reading, IsArg, AreArgs, AreWords, IsInput, IsByteTerms, IsBlockTerms, input_at, words_at, Shows, map-same, keeps_trans, term-later, input_at-later, words_at-later, outcome-later, Decides, IsInputOf, IsTapeOf, arg_numbers, byte_numbers, block_numbers, numbers_at, input_in, none_allows, outcome_in, IsCovering, IsUncovered, IsShapeOf, IsOfTarget, and_from, not-true, not_from_false}
+use Rattle.pair_questions.proofs.Common.{ℕ, ◌≡◌, ◌↔◌, Bool, true, false, not, ◌&&◌, ◌||◌, List, [], ◌∷◌, ◌++◌, length, append-nil, refl, ap, sym, subst, ◌∙◌, flat_map, eqb-true, IrType, Int, Parameter, Function, Layout, Bounds, Input, Point, Shape, Outcome, RunPair, same_types, same_return, same_signature, layout_of, WordsFit, IsOfShape, code_of, IsCode, covers, some_covers, is_covered, is_refined, run_of, IsPlain, need_of, IsPoint, codes_tell_points, TermId, Term, AreInRange, IsTerm, Keeps, Tests, bit_at, term_at, ArgTerms, ByteTerms, InputTerms, TapeTerms, OutcomeTerms, Each, reading, IsArg, AreArgs, AreWords, IsInput, IsByteTerms, IsBlockTerms, input_at, words_at, Shows, map-same, keeps_trans, term-later, input_at-later, words_at-later, outcome-later, Decides, IsInputOf, IsTapeOf, arg_numbers, byte_numbers, block_numbers, numbers_at, input_in, none_allows, outcome_in, IsCovering, IsMissed, integers, integers_at, IsShapeOf, IsOfTarget, and_from, not-true, not_from_false}
 use Rattle.ir_tree.specs.declared.tree.IrType.TheVariants.{Ptr}
 use Rattle.ir_tree.specs.Sites.{is_same_type}
 use Rattle.mem_terms.specs.declared.inputs.ArgTerms.TheVariants as arg
 use Rattle.mem_terms.proofs.Bits.{term-below}
-use Rattle.pair_questions.proofs.Decoded.{decoded}
+use Rattle.pair_questions.proofs.Decoded.{decoded, integers_decoded}
 
 pub and_left : (a b : Bool) → (a && b) ≡ true → a ≡ true
 and_left true b h = refl
@@ -148,59 +148,44 @@ the_point pair bounds s terms input tape shape are v p of code =
     let there = d.0 ∙ ap (λ (y : Layout). input_at (reading y.blocks v) terms input) shape.layout in
     sym (point_is p (input_in (layout_of pair bounds) v terms input) (words_at v terms tape.words) there d.1)
 
-module _ (pair : RunPair) (bounds : Bounds) (tapes : List (List ℕ)) (s : Shape) (terms new : List Term) (input : InputTerms) (tape : TapeTerms) (plain : (ℕ → ℕ → ℕ) → Bool) (id : TermId) (well : (ℕ → ℕ → ℕ) → Bool)
-    (shape : IsShapeOf pair bounds s) (are : IsInputOf s terms input)
-    (is_plain : (v : ℕ → ℕ → ℕ) → (plain v ≡ true) ↔ IsPlain (words_at v terms tape.words) (run_of pair.target bounds (input_in (layout_of pair bounds) v terms input) (words_at v terms tape.words)))
-    (is_well : (v : ℕ → ℕ → ℕ) → (well v ≡ true) ↔ (IsCode s (numbers_at v terms input tape) × (plain v ≡ true)))
-    (says : (v : ℕ → ℕ → ℕ) → bit_at v new id ≡ (well v && not (is_covered pair bounds tapes (point_at (layout_of pair bounds) v terms input tape)))) where
-  to_answer : (v : ℕ → ℕ → ℕ) → bit_at v new id ≡ true → IsUncovered pair bounds tapes (numbers_at v terms input tape)
-  to_answer v e =
-      let q : Point = point_at (layout_of pair bounds) v terms input tape in
-      let both = sym (says v) ∙ e in
-      let is_code = (is_well v).0 (and_left (well v) (not (is_covered pair bounds tapes q)) both) in
+-- and its integer arguments have the numbers that the terms denote
+pub the_integers : (pair : RunPair) (bounds : Bounds) (s : Shape) (terms : List Term) (input : InputTerms) (tape : TapeTerms) → IsShapeOf pair bounds s → IsInputOf s terms input → (v : ℕ → ℕ → ℕ) (p : Point) → IsOfShape s p
+    → code_of s.layout s.parameters p ≡ numbers_at v terms input tape → integers_at v terms input.args ≡ integers pair.target.parameters p.input.args
+the_integers pair bounds s terms input tape shape are v p of code =
+    sym (integers_decoded v terms s input tape p are of code) ∙ ap (λ (ps : List Parameter). integers ps p.input.args) shape.parameters
+
+-- ---- any point
+
+module _ (pair : RunPair) (bounds : Bounds) (s : Shape) (terms new : List Term) (input : InputTerms) (tape : TapeTerms) (o : OutcomeTerms) (id : TermId) (shape : IsShapeOf pair bounds s) (are : IsInputOf s terms input)
+    (run : IsOfTarget pair bounds terms input tape o) (well : Decides new id (λ v. IsCode s (numbers_at v terms input tape) × (bit_at v terms o.plain ≡ true))) where
+  to_point : (v : ℕ → ℕ → ℕ) → bit_at v new id ≡ true → IsMissed pair bounds [] [] (numbers_at v terms input tape)
+  unfolding some_covers
+  to_point v e =
+      let is_code = (well.1 v).0 e in
       let found = (codes_tell_points s).points (numbers_at v terms input tape) is_code.0 in
       let p : Point = found.0 in
       let same = the_point pair bounds s terms input tape shape are v p found.1.of_shape found.1.code in
-      let plain_there : IsPlain p.tape (run_of pair.target bounds p.input p.tape) = subst (λ (q : Point). IsPlain q.tape (run_of pair.target bounds q.input q.tape)) same ((is_plain v).0 is_code.1) in
-      let free = not-true (is_covered pair bounds tapes q) (and_right (well v) (not (is_covered pair bounds tapes q)) both) in
+      let plain : IsPlain p.tape (run_of pair.target bounds p.input p.tape) = subst (λ (q : Point). IsPlain q.tape (run_of pair.target bounds q.input q.tape)) same ((run.shows v).plain.0 is_code.1) in
       record {
         of = p;
-        point = a_point pair bounds s p shape found.1.of_shape plain_there;
+        point = a_point pair bounds s p shape found.1.of_shape plain;
         code = shape_code p shape found.1.code;
-        uncovered = subst (λ (q : Point). is_covered pair bounds tapes q ≡ false) same free;
+        by_candidate = refl;
+        by_tape = refl;
       }
 
-  from_answer : (v : ℕ → ℕ → ℕ) → IsUncovered pair bounds tapes (numbers_at v terms input tape) → bit_at v new id ≡ true
-  from_answer v u =
+  from_point : (v : ℕ → ℕ → ℕ) → IsMissed pair bounds [] [] (numbers_at v terms input tape) → bit_at v new id ≡ true
+  from_point v u =
       let p : Point = u.of in
       let of = of_shape pair bounds s p shape u.point in
       let code : code_of s.layout s.parameters p ≡ numbers_at v terms input tape = rw (shape.parameters, shape.layout) u.code in
       let same = the_point pair bounds s terms input tape shape are v p of code in
       let is_code : IsCode s (numbers_at v terms input tape) = subst (IsCode s) code ((codes_tell_points s).codes p of) in
-      let plain_there = (is_plain v).1 (subst (λ (q : Point). IsPlain q.tape (run_of pair.target bounds q.input q.tape)) (sym same) u.point.plain) in
-      let free : is_covered pair bounds tapes (point_at (layout_of pair bounds) v terms input tape) ≡ false = subst (λ (q : Point). is_covered pair bounds tapes q ≡ false) (sym same) u.uncovered in
-      says v ∙ and_from (well v) (not (is_covered pair bounds tapes (point_at (layout_of pair bounds) v terms input tape))) ((is_well v).1 (is_code, plain_there)) (not_from_false (is_covered pair bounds tapes (point_at (layout_of pair bounds) v terms input tape)) free)
+      let plain = (run.shows v).plain.1 (subst (λ (q : Point). IsPlain q.tape (run_of pair.target bounds q.input q.tape)) (sym same) u.point.plain) in
+      (well.1 v).1 (is_code, plain)
 
-  answers : IsTerm new 1 id → Decides new id (λ v. IsUncovered pair bounds tapes (numbers_at v terms input tape))
-  answers is = (is, λ v. (to_answer v, from_answer v))
-
-pub uncovered_decides : (old mid new : List Term) (pair : RunPair) (bounds : Bounds) (s : Shape) (input : InputTerms) (tape : TapeTerms) (o : OutcomeTerms) (well id : TermId)
-    → IsShapeOf pair bounds s → IsInputOf s old input → IsTapeOf s old tape → Keeps old mid → IsOfTarget pair bounds old input tape o
-    → Decides mid well (λ v. IsCode s (numbers_at v old input tape) × (bit_at v old o.plain ≡ true))
-    → Tests new id (λ v. bit_at v mid well && none_allows pair.source bounds (input_in (layout_of pair bounds) v mid input) (outcome_in (layout_of pair bounds) v mid o) (shifted (need_of bounds.turns pair.source) (words_at v mid tape.words)))
-    → Decides new id (λ v. IsUncovered pair bounds [] (numbers_at v old input tape))
-uncovered_decides old mid new pair bounds s input tape o well id shape are words k run is_well shifts =
-    answers pair bounds [] s old new input tape (λ v. bit_at v old o.plain) id (λ v. bit_at v mid well) shape are (λ v. (run.shows v).plain) is_well.1 says (record { within = shifts.within; wide = shifts.wide })
-  where
-    says : (v : ℕ → ℕ → ℕ) → bit_at v new id ≡ (bit_at v mid well && not (is_covered pair bounds [] (point_at (layout_of pair bounds) v old input tape)))
-    says v =
-        let p : Point = point_at (layout_of pair bounds) v old input tape in
-        let front : List (List ℕ) = shifted (need_of bounds.turns pair.source) p.tape in
-        let same_words : words_at v mid tape.words ≡ p.tape = words_at-later old mid k v tape.words words.words in
-        let same_input : input_in (layout_of pair bounds) v mid input ≡ p.input = input_at-later old mid k (reading bounds.blocks v) s.parameters s.layout input are in
-        let same_outcome : outcome_in (layout_of pair bounds) v mid o ≡ (run_of pair.target bounds p.input p.tape).outcome = outcome-later old mid k (reading bounds.blocks v) o run.made ∙ (run.shows v).outcome in
-        let none = three (λ (i : Input) (z : Outcome) (ws : List ℕ). none_allows pair.source bounds i z (shifted (need_of bounds.turns pair.source) ws)) same_input same_outcome same_words in
-        shifts.says v ∙ ap (λ b. bit_at v mid well && b) (none ∙ (none_is pair bounds p front ∙ ap (λ xs. not (some_covers pair bounds p xs)) (sym (append-nil front))))
+  pub point_decides : Decides new id (λ v. IsMissed pair bounds [] [] (numbers_at v terms input tape))
+  point_decides = (well.0, λ v. (to_point v, from_point v))
 
 -- ---- the covering tape
 

@@ -16,6 +16,9 @@ use Rattle.mem_terms.specs.declared.outcome.OutcomeTerms.{OutcomeTerms}
 use Rattle.mem_terms.specs.Values.{Each, reading}
 use Rattle.mem_terms.specs.Inputs.{AreWords, IsInput, input_at, words_at}
 use Rattle.mem_terms.specs.Outcomes.{IsOutcome, LeavesGiven, outcome_at}
+use Rattle.verdicts.specs.Covers.{words_of}
+use Rattle.candidate_runs.specs.declared.candidate.Candidate.{Candidate}
+use Rattle.candidate_runs.specs.Candidates.{function_of}
 use Rattle.pair_questions.specs.declared.goals.Trial.{Trial}
 use Rattle.pair_questions.specs.Encodables.{IsEncodable}
 use Rattle.ir_tree.specs.Limits.{CanRun}
@@ -27,6 +30,10 @@ tapes_at v terms tapes = map (λ (tape : TapeTerms). words_at v terms tape.words
 
 abbrev pub AreTapes : List Term → List TapeTerms → Type 0
 AreTapes terms tapes = Each (λ (tape : TapeTerms). AreWords terms tape.words) tapes
+
+-- the tapes of these candidates, by the numbers of the integer arguments and the target's tape
+abbrev pub words_of_each : ℕ → (numbers tape : List ℕ) → List Candidate → List (List ℕ)
+words_of_each need numbers tape cs = map (λ c. words_of need (function_of numbers tape c)) cs
 
 -- each tape of one list occurs in the other, in whatever order and however often
 pub record AreSameTapes (xs ys : List (List ℕ)) : Type 0 where

@@ -4,6 +4,7 @@ pub mod Candidates
 pub mod Numbers
 pub mod Orders
 pub mod PointQuestions
+pub mod PointTermsOf
 pub mod Questions
 pub mod Shapes
 pub mod Subjects

@@ -1,5 +1,5 @@
 -- The two questions on a pair, as questions of lists of numbers, and what clauses show of them.
-use Rattle.std.specs.Prelude.{◌≡◌, ◌↔◌, ℕ, zero, suc, Bool, true, false, List, [], ◌∷◌, ◌++◌, length, replicate, Option, Some}
+use Rattle.std.specs.Prelude.{◌≡◌, ◌↔◌, ◌<◌, ℕ, zero, suc, Bool, true, false, List, [], ◌∷◌, ◌++◌, length, replicate, Option, Some}
 use Rattle.ir_tree.specs.declared.tree.IrType.{IrType}
 use Rattle.ir_tree.specs.declared.tree.IrType.TheVariants as type
 use Rattle.ir_tree.specs.declared.tree.Parameter.{Parameter}
@@ -12,14 +12,16 @@ use Rattle.points.specs.Code.{IsOfShape, WordsFit, code_of}
 use Rattle.points.specs.Codes.{IsCode}
 use Rattle.points.specs.Runnable.{IsRunnable}
 use Rattle.points.specs.Tapes.{need_of}
-use Rattle.verdicts.specs.Covers.{covers, is_covered, IsLeastCover, HasNoCover}
-use Rattle.verdicts.specs.Trail.{IsPoint, IsLeastUncovered, AreAllCovered}
+use Rattle.verdicts.specs.Covers.{covers, some_covers, is_covered, IsLeastCover, HasNoCover}
+use Rattle.verdicts.specs.Trail.{IsPoint, place_in, IsLeastUncovered, AreAllCovered}
 use Rattle.clause_lits.specs.declared.cnf.Cnf.{Cnf}
 use Rattle.clause_log.specs.declared.step.Cert.{Cert}
 use Rattle.clause_log.specs.Refutation.{Refutes}
 use Rattle.clause_search.specs.Outcome.{IsCareful, IsSpent}
 use Rattle.answer_order.specs.Fronts.{numbers_of, total}
 use Rattle.sat_ask.specs.Asks.{Asks, HasSmallNumbers}
+use Rattle.candidate_runs.specs.declared.candidate.Candidate.{Candidate}
+use Rattle.candidate_runs.specs.Candidates.{tapes_of}
 use Rattle.pair_costs.specs.Small.{AreSmall}
 use Rattle.ir_tree.specs.Limits.{CanRun}
 use Rattle.pair_questions.specs.declared.found.Found.{Found}
@@ -67,12 +69,20 @@ tape_widths pair bounds = replicate (need_of bounds.turns pair.source) 64
 
 -- ---- the questions
 
--- the code of a point that neither a shift nor one of the tapes covers
+-- the code of a point that neither a candidate nor one of the tapes covers
 pub record IsUncovered (pair : RunPair) (bounds : Bounds) (tapes : List (List ℕ)) (numbers : List ℕ) : Type 0 where
   pub of : Point
   pub point : IsPoint pair bounds of
   pub code : code_of (layout_of pair bounds) pair.target.parameters of ≡ numbers
   pub uncovered : is_covered pair bounds tapes of ≡ false
+
+-- the code of a point that neither one of these candidates nor one of the tapes covers
+pub record IsMissed (pair : RunPair) (bounds : Bounds) (cs : List Candidate) (tapes : List (List ℕ)) (numbers : List ℕ) : Type 0 where
+  pub of : Point
+  pub point : IsPoint pair bounds of
+  pub code : code_of (layout_of pair bounds) pair.target.parameters of ≡ numbers
+  pub by_candidate : some_covers pair bounds of (tapes_of pair bounds of cs) ≡ false
+  pub by_tape : some_covers pair bounds of tapes ≡ false
 
 -- a tape of the source that covers the point
 pub record IsCovering (pair : RunPair) (bounds : Bounds) (p : Point) (tape : List ℕ) : Type 0 where
@@ -105,15 +115,27 @@ IsFoundPoint pair bounds tapes limit (found.Least p) = IsLeastUncovered pair bou
 IsFoundPoint pair bounds tapes limit (found.None cert) = AreAllCovered pair bounds tapes × IsRefuted (IsUncovered pair bounds tapes) (point_widths pair bounds) cert
 IsFoundPoint pair bounds tapes limit (found.Spent cert) = (n : ℕ) × (limit ≡ Some n) × IsSpentOn (IsUncovered pair bounds tapes) (point_widths pair bounds) n cert
 
--- the code of the least such point: each point of the shape with this code is the least
-pub record IsLeastCode (pair : RunPair) (bounds : Bounds) (s : Shape) (tapes : List (List ℕ)) (code : List ℕ) : Type 0 where
-  pub of_shape : IsCode s code
-  pub least : (p : Point) → IsOfShape s p → code_of s.layout s.parameters p ≡ code → IsLeastUncovered pair bounds tapes p
+-- a point that none of these candidates and none of the tapes covers, where each smaller one is covered
+pub record IsLeastMissed (pair : RunPair) (bounds : Bounds) (cs : List Candidate) (tapes : List (List ℕ)) (p : Point) : Type 0 where
+  pub point : IsPoint pair bounds p
+  pub by_candidate : some_covers pair bounds p (tapes_of pair bounds p cs) ≡ false
+  pub by_tape : some_covers pair bounds p tapes ≡ false
+  pub least : (q : Point) → IsPoint pair bounds q → place_in pair bounds q < place_in pair bounds p → is_covered pair bounds tapes q ≡ true
 
-abbrev pub IsFoundCode : RunPair → Bounds → Shape → List (List ℕ) → Option ℕ → Found (List ℕ) → Type 0
-IsFoundCode pair bounds s tapes limit (found.Least code) = IsLeastCode pair bounds s tapes code
-IsFoundCode pair bounds s tapes limit (found.None cert) = IsFoundPoint pair bounds tapes limit (found.None cert)
-IsFoundCode pair bounds s tapes limit (found.Spent cert) = IsFoundPoint pair bounds tapes limit (found.Spent cert)
+-- its code: each point of the shape with this code is that point
+pub record IsLeastCode (pair : RunPair) (bounds : Bounds) (s : Shape) (cs : List Candidate) (tapes : List (List ℕ)) (code : List ℕ) : Type 0 where
+  pub of_shape : IsCode s code
+  pub least : (p : Point) → IsOfShape s p → code_of s.layout s.parameters p ≡ code → IsLeastMissed pair bounds cs tapes p
+
+abbrev pub IsFoundCode : RunPair → Bounds → Shape → List Candidate → List (List ℕ) → Option ℕ → Found (List ℕ) → Type 0
+IsFoundCode pair bounds s cs tapes limit (found.Least code) = IsLeastCode pair bounds s cs tapes code
+IsFoundCode pair bounds s cs tapes limit (found.None cert) = IsFoundPoint pair bounds tapes limit (found.None cert)
+IsFoundCode pair bounds s cs tapes limit (found.Spent cert) = IsFoundPoint pair bounds tapes limit (found.Spent cert)
+
+abbrev pub IsFoundMissed : RunPair → Bounds → List Candidate → List (List ℕ) → Option ℕ → Found Point → Type 0
+IsFoundMissed pair bounds cs tapes limit (found.Least p) = IsLeastMissed pair bounds cs tapes p
+IsFoundMissed pair bounds cs tapes limit (found.None cert) = IsFoundPoint pair bounds tapes limit (found.None cert)
+IsFoundMissed pair bounds cs tapes limit (found.Spent cert) = IsFoundPoint pair bounds tapes limit (found.Spent cert)
 
 abbrev pub IsFoundTape : RunPair → Bounds → Point → Option ℕ → Found (List ℕ) → Type 0
 IsFoundTape pair bounds p limit (found.Least tape) = IsLeastCover pair bounds p tape

@@ -1,14 +1,15 @@
--- Tapes that are shifted by some positions.
-use Rattle.std.specs.Prelude.{ℕ, ◌+◌, ◌-◌, ◌^◌, nat_lt, if◌then◌else◌, List, Option, Some, None}
-use Rattle.verdicts.specs.Covers.{word_before, word_behind}
-use Rattle.pair_questions.specs.declared.tapes.Shift.{Shift}
-use Rattle.pair_questions.specs.declared.tapes.Shift.TheVariants.{Later, Earlier}
+-- The numbers of the integer arguments, as terms.
+use Rattle.std.specs.Prelude.{ℕ, List, [], ◌∷◌}
+use Rattle.std.specs.List.{flat_map}
+use Rattle.bv_terms.specs.declared.term.Term.{Term}
+use Rattle.bv_terms.specs.Trees.{term_at}
+use Rattle.mem_terms.specs.declared.inputs.ArgTerms.{ArgTerms}
+use Rattle.mem_terms.specs.declared.inputs.ArgTerms.TheVariants as arg
 
-abbrev pub shift_of : Shift → List ℕ → ℕ → ℕ
-shift_of (Later by) tape i = word_behind tape by i
-shift_of (Earlier by) tape i = word_before tape by i
+abbrev pub integer_at : (ℕ → ℕ → ℕ) → List Term → ArgTerms → List ℕ
+integer_at v terms (arg.Int flag number) = term_at v terms number ∷ []
+integer_at v terms (arg.Ptr flag block offset) = []
 
--- the index that a word comes from
-abbrev pub source_of : Shift → ℕ → Option ℕ
-source_of (Later by) i = if nat_lt (i + by) (2 ^ 64) then Some (i + by) else None
-source_of (Earlier by) i = if nat_lt i by then None else Some (i - by)
+-- in a code the number at a poison flag is 0
+abbrev pub integers_at : (ℕ → ℕ → ℕ) → List Term → List ArgTerms → List ℕ
+integers_at v terms args = flat_map (integer_at v terms) args

@@ -1,4 +1,4 @@
-//! RunPair as they are encoded.
+//! A function as it is encoded: its names in slots, its blocks copied.
 
 ghost use Rattle.std.specs.Prelude.{◌≡◌, ℕ, IfOk, IfSome, is_some};
 ghost use Rattle.points.specs.Run.{run_of};

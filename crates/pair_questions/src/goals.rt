@@ -1,25 +1,25 @@
 //! The goals of the two questions.
 
 ghost use Rattle.std.specs.Prelude.{◌≡◌, ◌∷◌, ◌&&◌, [], IfOk, length};
-ghost use Rattle.verdicts.specs.Covers.{shifted};
 ghost use Rattle.verdicts.specs.Trail.{IsPoint};
 ghost use Rattle.bv_terms.specs.Trees.{IsTerm, Keeps, Tests, bit_at};
 ghost use Rattle.mem_terms.specs.Inputs.{AreWords, words_at};
-ghost use Rattle.mem_terms.specs.Outcomes.{IsOutcome, LeavesGiven};
 ghost use Rattle.refine_terms.specs.Deciding.{Decides};
 ghost use Rattle.refine_terms.specs.Numbers.{IsInputOf, IsTapeOf, numbers_at};
-ghost use Rattle.pair_questions.specs.Candidates.{AreTapes, IsTrial, Narrows, input_in, none_allows, outcome_in, tapes_at};
-ghost use Rattle.pair_questions.specs.Questions.{IsCovering, IsUncovered};
+ghost use Rattle.pair_questions.specs.Candidates.{AreTapes, IsTrial, Narrows, input_in, none_allows, outcome_in, tapes_at, words_of_each};
+ghost use Rattle.pair_questions.specs.PointTermsOf.{ArePointTerms};
+ghost use Rattle.pair_questions.specs.Questions.{IsCovering, IsMissed};
 ghost use Rattle.pair_questions.specs.Subjects.{IsOfTarget, IsSubject};
 ghost use Rattle.verdicts.specs.Pair.{layout_of};
-ghost use Rattle.mem_terms.specs.Memory.{frames_of};
 
-use crate::candidates::shifted_tapes;
+use crate::candidates::candidate_tapes;
 use crate::encodable::Encodable;
 use crate::known::known_input;
+use crate::point_terms::PointTerms;
 use crate::subject::Subject;
 use crate::tapes::known;
 use bv_terms::{TermId, Terms};
+use candidate_runs::Candidate;
 use mem_terms::{InputTerms, OutcomeTerms, TapeTerms, both, negation};
 use points::{Bounds, Layout, Point};
 use refine_terms::{covered, well_point};
@@ -86,43 +86,20 @@ fn and_none(
     Ok(goal)
 }
 
-/// True where the goal is and no shift of the tape lets the source's run allow the target's outcome.
-fn and_no_shift(
-    alloc: Global,
-    trial: &Trial,
-    words: &[TermId],
-    need: usize,
-    goal: TermId,
-    terms: &mut Terms,
-) -> Result<TermId, NoMemory>
-    requires trial { IsTrial terms.old trial.now }
-    requires words { AreWords terms.old words.now }
-    requires goal { IsTerm terms.old 1 goal }
-    ensures made { IfOk result (Narrows trial.now terms.old terms.new goal (λ v. shifted need (words_at v terms.old words.now))) }
-    ensures kept { Keeps terms.old terms.new }
-{
-    let candidates = shifted_tapes(alloc, words, need, terms)?;
-    let id = and_none(alloc, trial, candidates.as_slice(), goal, terms)?;
-    Ok(id)
-}
-
 /// True where the goal is and on this tape the source's run doesn't allow the target's outcome.
 pub fn and_no_tape(
     alloc: Global,
     subject: &Subject,
-    input: &InputTerms,
-    target: &OutcomeTerms,
+    of: &PointTerms,
     tape: &[u64],
     goal: TermId,
     terms: &mut Terms,
 ) -> Result<TermId, NoMemory>
     requires subject { IsSubject subject.now }
-    requires input { IsInputOf subject.now.shape terms.old input.now }
-    requires target { IsOutcome terms.old target.now }
-    requires given { LeavesGiven (frames_of (layout_of subject.now.pair.now subject.now.bounds.now)) target.now }
+    requires terms { ArePointTerms subject.now terms.old of.now }
     requires goal { IsTerm terms.old 1 goal }
     ensures made { IfOk result (λ id. Tests terms.new id (λ v. bit_at v terms.old goal && none_allows subject.now.pair.now.source subject.now.bounds.now
-        (input_in (layout_of subject.now.pair.now subject.now.bounds.now) v terms.old input.now) (outcome_in (layout_of subject.now.pair.now subject.now.bounds.now) v terms.old target.now) (tape.now ∷ []))) }
+        (input_in (layout_of subject.now.pair.now subject.now.bounds.now) v terms.old of.now.input) (outcome_in (layout_of subject.now.pair.now subject.now.bounds.now) v terms.old of.now.target) (tape.now ∷ []))) }
     ensures kept { Keeps terms.old terms.new }
 {
     let candidate = known(alloc, tape, terms)?;
@@ -130,8 +107,8 @@ pub fn and_no_tape(
         source: &subject.source,
         bounds: subject.bounds,
         layout: &subject.shape.layout,
-        input,
-        target,
+        input: &of.input,
+        target: &of.target,
     };
     let id = and_uncovered(alloc, &trial, &candidate, goal, terms)?;
     Ok(id)
@@ -162,9 +139,8 @@ pub fn target_run(
     Ok(outcome)
 }
 
-/// True where the numbers of the terms are the code of a point that no shift of its tape covers.
-pub fn unshifted(
-    alloc: Global,
+/// True where the numbers of the terms are the code of a point.
+pub fn is_point(
     subject: &Subject,
     input: &InputTerms,
     tape: &TapeTerms,
@@ -175,19 +151,46 @@ pub fn unshifted(
     requires input { IsInputOf subject.now.shape terms.old input.now }
     requires tape { IsTapeOf subject.now.shape terms.old tape.now }
     requires target { IsOfTarget subject.now.pair.now subject.now.bounds.now terms.old input.now tape.now target.now }
-    ensures made { IfOk result (λ id. Decides terms.new id (λ v. IsUncovered subject.now.pair.now subject.now.bounds.now [] (numbers_at v terms.old input.now tape.now))) }
+    ensures made { IfOk result (λ id. Decides terms.new id (λ v. IsMissed subject.now.pair.now subject.now.bounds.now [] [] (numbers_at v terms.old input.now tape.now))) }
     ensures kept { Keeps terms.old terms.new }
 {
-    let is_point = well_point(&subject.shape, input, tape, target, terms)?;
+    well_point(&subject.shape, input, tape, target, terms)
+}
+
+/// True where the goal is and on none of the tapes of these candidates the source's run allows the
+/// target's outcome.
+pub fn and_no_candidate(
+    alloc: Global,
+    subject: &Subject,
+    of: &PointTerms,
+    candidates: &[Candidate],
+    goal: TermId,
+    terms: &mut Terms,
+) -> Result<TermId, NoMemory>
+    requires subject { IsSubject subject.now }
+    requires terms { ArePointTerms subject.now terms.old of.now }
+    requires goal { IsTerm terms.old 1 goal }
+    ensures made { IfOk result (λ id. Tests terms.new id (λ v. bit_at v terms.old goal && none_allows subject.now.pair.now.source subject.now.bounds.now
+        (input_in (layout_of subject.now.pair.now subject.now.bounds.now) v terms.old of.now.input) (outcome_in (layout_of subject.now.pair.now subject.now.bounds.now) v terms.old of.now.target)
+        (words_of_each subject.now.need (words_at v terms.old of.now.numbers) (words_at v terms.old of.now.tape.words) candidates.now))) }
+    ensures kept { Keeps terms.old terms.new }
+{
+    let tapes = candidate_tapes(
+        alloc,
+        candidates,
+        of.numbers.as_slice(),
+        of.tape.words.as_slice(),
+        subject.need as usize,
+        terms,
+    )?;
     let trial = Trial {
         source: &subject.source,
         bounds: subject.bounds,
         layout: &subject.shape.layout,
-        input,
-        target,
+        input: &of.input,
+        target: &of.target,
     };
-    let words = tape.words.as_slice();
-    let id = and_no_shift(alloc, &trial, words, subject.need as usize, is_point, terms)?;
+    let id = and_none(alloc, &trial, tapes.as_slice(), goal, terms)?;
     Ok(id)
 }
 

@@ -17,6 +17,7 @@ mod inputs;
 mod known;
 mod laws;
 mod point_question;
+mod point_terms;
 mod subject;
 mod tape_question;
 mod tapes;

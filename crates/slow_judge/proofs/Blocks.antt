@@ -1,5 +1,5 @@
 -- RunPair without pointers: the points with empty blocks decide.
-use Rattle.slow_judge.proofs.Common.{◌≡◌, ℕ, ◌+◌, ◌≤◌, List, [], ◌∷◌, ◌++◌, length, Option, Some, None, refl, sym, ap, ◌∙◌, arith, length-append, MatchOption, slice_index, filter, MemoryBlock, Outcome, Bounds, Point, RunPair, layout_of, is_refined, number_of, args_code, blocks_code, BlocksFit, Run, is_given, run_of, IsPlain, need_of, covers, some_covers, shifted, is_covered, IsPoint, place_in, IsLeastUncovered, AreAllCovered, number_of-append, length_of_Digits, blocks_digits, AreSmall, HaveNoPointers, empty_blocks, IsCell, IsLeastAmong, AreCoveredAmong}
+use Rattle.slow_judge.proofs.Common.{◌≡◌, ℕ, ◌+◌, ◌≤◌, List, [], ◌∷◌, ◌++◌, length, Option, Some, None, refl, sym, ap, ◌∙◌, arith, length-append, MatchOption, slice_index, filter, MemoryBlock, Outcome, Bounds, Point, RunPair, layout_of, is_refined, number_of, args_code, blocks_code, BlocksFit, Run, is_given, run_of, IsPlain, need_of, covers, some_covers, tried, is_covered, IsPoint, place_in, IsLeastUncovered, AreAllCovered, number_of-append, length_of_Digits, blocks_digits, AreSmall, HaveNoPointers, empty_blocks, IsCell, IsLeastAmong, AreCoveredAmong}
 use Rattle.points.specs.declared.outcome.Outcome.TheVariants.{Return, Ub, Beyond}
 use Rattle.verdicts.proofs.Placed.{with_memory, with_blocks, run_any_memory}
 use Rattle.choice_interp.proofs.Endings.{blocks_allow-same}
@@ -43,7 +43,7 @@ some_covers_emptied pair none bounds q [] = refl
 some_covers_emptied pair none bounds q (tape ∷ tapes) = rw (covers_emptied pair none bounds q tape, some_covers_emptied pair none bounds q tapes) refl
 
 covered_emptied : (pair : RunPair) → HaveNoPointers pair → (bounds : Bounds) (tapes : List (List ℕ)) (q : Point) → is_covered pair bounds tapes (emptied pair bounds q) ≡ is_covered pair bounds tapes q
-covered_emptied pair none bounds tapes q = some_covers_emptied pair none bounds q (shifted (need_of bounds.turns pair.source) q.tape ++ tapes)
+covered_emptied pair none bounds tapes q = some_covers_emptied pair none bounds q (tried pair bounds q ++ tapes)
 
 -- ---- and it comes no later
 

@@ -23,10 +23,14 @@ pub use Rattle.points.specs.Tapes.{need_of, widest_choice, plain_form}
 pub use Rattle.points.specs.declared.outcome.Outcome.{Outcome}
 pub use Rattle.points.specs.declared.point.Bounds.{Bounds}
 pub use Rattle.points.specs.declared.point.Point.{Point}
+pub use Rattle.candidate_runs.proofs.Tried.{some_append, tried_split}
+pub use Rattle.candidate_runs.specs.Candidates.{AreTemplates, NoneCovers, CoversAt, integer_count, tapes_of, tape_of}
+pub use Rattle.candidate_runs.specs.declared.candidate.TheConstants.{SHIFTS}
+pub use Rattle.candidate_runs.specs.declared.candidate.Candidate.{Candidate}
 pub use Rattle.verdicts.proofs.Meaning.{cons_after, plain_covers}
-pub use Rattle.verdicts.specs.Covers.{is_covered, IsLeastCover, HasNoCover, shifted, words_of}
+pub use Rattle.verdicts.specs.Covers.{is_covered, IsLeastCover, HasNoCover, tried}
 unfoldable pub use Rattle.verdicts.specs.Covers.{covers, some_covers}
 pub use Rattle.verdicts.specs.Pair.{RunPair, Functions, layout_of}
 pub use Rattle.verdicts.specs.Trail.{place_in, TrailFrom, IsLeastUncovered, AreAllCovered, Ends, IsVerdict, IsPoint}
-pub use Rattle.slow_judge.specs.Search.{IsNextAmong, IsLastAmong, IsUncovered, IsLeastAmong, AreCoveredAmong, HasTrail, HaveNoPointers, empty_blocks, IsCell, DoesEnd, empty_block, least_args, IsNextCell, IsLastCell, IsShapeOf, IsReady, shift_of}
+pub use Rattle.slow_judge.specs.Search.{IsNextAmong, IsLastAmong, IsUncovered, IsLeastAmong, AreCoveredAmong, HasTrail, HaveNoPointers, empty_blocks, IsCell, empty_block, least_args, IsNextCell, IsLastCell, IsShapeOf, IsReady}
 unfoldable pub use Rattle.slow_judge.specs.Search.{first_empty}

@@ -19,30 +19,18 @@ use Rattle.verdicts.specs.Pair.{RunPair, layout_of}
 use Rattle.points.specs.Code.{ArgsFit, WordsFit}
 use Rattle.points.specs.Next.{least_value}
 use Rattle.points.specs.Run.{run_of, IsPlain}
-use Rattle.points.specs.Runnable.{IsRunnable}
 use Rattle.points.specs.Tapes.{need_of, widest_choice}
-use Rattle.verdicts.specs.Covers.{is_covered, word_before, word_behind, IsLeastCover, HasNoCover}
+use Rattle.verdicts.specs.Covers.{is_covered, IsLeastCover, HasNoCover}
 use Rattle.verdicts.specs.Trail.{place_in, TrailFrom, open_point, Ends, IsLeastUncovered, AreAllCovered}
-use Rattle.choice_interp.specs.declared.ending.Ending.{Ending}
-use Rattle.choice_interp.specs.Ran.{outcome_of}
+use Rattle.candidate_runs.specs.Candidates.{AreTemplates, AreTries, integer_count}
 use Rattle.choice_interp.specs.Runners.{IsRunner}
 use Rattle.slow_judge.specs.declared.bench.Bench.{Bench}
-use Rattle.slow_judge.specs.declared.cover.Shift.{Shift}
-use Rattle.slow_judge.specs.declared.cover.Shift.TheVariants.{Later, Earlier}
 use Rattle.slow_judge.specs.declared.round.Round.{Round}
 use Rattle.slow_judge.specs.declared.round.Round.TheVariants.{Correct, Incorrect, Covered}
-
-pub record AreRunnable (pair : RunPair) : Type 0 where
-  pub source : IsRunnable pair.source
-  pub target : IsRunnable pair.target
 
 pub record HaveNoPointers (pair : RunPair) : Type 0 where
   pub source : HasNoPointers pair.source
   pub target : HasNoPointers pair.target
-
--- the target's run on the point ends so and leaves this memory
-abbrev pub DoesEnd : RunPair → Bounds → Point → Ending → List MemoryBlock → Type 0
-DoesEnd pair bounds p ending memory = (run_of pair.target bounds p.input p.tape).outcome ≡ outcome_of ending memory
 
 -- ---- given blocks
 
@@ -109,11 +97,11 @@ AreCoveredAmong Among pair bounds tapes = (q : Point) → Among q → IsPlain q.
 
 -- ---- what the judge works with
 
--- runners of both functions, and room for one tape of the source
+-- tries of the source, a runner of the target, and the templates of the integer parameters
 pub record IsReady (pair : RunPair) (bounds : Bounds) (bench : Bench) : Type 0 where
-  pub source : IsRunner pair.source bench.source
+  pub source : AreTries pair bounds bench.source
   pub target : IsRunner pair.target bench.target
-  pub candidate : length bench.candidate ≡ need_of bounds.turns pair.source
+  pub templates : AreTemplates (integer_count pair.target.parameters) bench.templates.items
 
 -- ---- a round
 
@@ -147,9 +135,3 @@ pub record HasTrail (pair : RunPair) (bounds : Bounds) (budget : Budget) (v : Ve
   pub trail : TrailFrom pair bounds [] kept.tapes kept.points
   pub within : length kept.tapes ≤ budget.rounds
   pub ends : Ends pair bounds budget kept.tapes (open_point kept) v
-
--- ---- a shifted tape
-
-abbrev pub shift_of : Shift → List ℕ → ℕ → ℕ
-shift_of (Later by) tape i = word_behind tape by i
-shift_of (Earlier by) tape i = word_before tape by i

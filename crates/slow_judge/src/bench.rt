@@ -1,14 +1,14 @@
 //! What the runs of a pair reuse.
 
+use candidate_runs::{Candidate, Tries};
 use choice_interp::Runner;
-use support::Sequence;
 
-/// What is reused from point to point: a runner of each function, and room for one tape of the
-/// source.
+/// What is reused from point to point: a runner of the target, tries of the source, and the
+/// templates of the arguments.
 pub struct Bench {
-    pub source: Runner,
+    pub source: Tries,
     pub target: Runner,
-    pub candidate: Sequence<u64>,
+    pub templates: Vec<Candidate>,
 }
 
 // Dropped by one call: a derived drop is written out at each return.
@@ -17,7 +17,7 @@ impl Drop for Bench {
         let Bench {
             source,
             target,
-            candidate,
+            templates,
         } = self;
     }
 }

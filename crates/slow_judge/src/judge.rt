@@ -8,12 +8,13 @@ ghost use Rattle.points.specs.Tapes.{need_of, widest_choice};
 ghost use Rattle.verdicts.specs.Pair.{run_pair};
 ghost use Rattle.verdicts.specs.Trail.{IsVerdict};
 ghost use Rattle.pair_costs.specs.Small.{AreSmall};
-ghost use Rattle.slow_judge.specs.Search.{AreRunnable, IsReady, HasTrail};
+ghost use Rattle.candidate_runs.specs.Candidates.{AreRunnable};
+ghost use Rattle.slow_judge.specs.Search.{IsReady, HasTrail};
 
 use crate::bench::Bench;
-use crate::cells::zeros;
 use crate::round::{add_tape, next_round};
 use crate::search::Tape;
+use candidate_runs::{templates_for, tries_for};
 use choice_interp::runner_for;
 use pair_costs::{need, weight, widest_of};
 use points::{Bounds, Budget};
@@ -26,9 +27,9 @@ fn bench_for(alloc: Global, pair: &RunPair, bounds: &Bounds, need: usize) -> Res
     ensures { IfOk result (IsReady pair.now bounds.now) }
 {
     Ok(Bench {
-        candidate: zeros(alloc, need)?,
-        source: runner_for(alloc, pair.source())?,
+        source: tries_for(alloc, pair, bounds, need)?,
         target: runner_for(alloc, pair.target())?,
+        templates: templates_for(alloc, pair.target().parameters.as_slice())?,
     })
 }
 

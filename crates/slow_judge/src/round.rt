@@ -3,7 +3,8 @@
 ghost use Rattle.std.specs.Prelude.{◌≡◌, MatchOption, IfOk};
 ghost use Rattle.points.specs.Tapes.{need_of, widest_choice};
 ghost use Rattle.pair_costs.specs.Small.{AreSmall};
-ghost use Rattle.slow_judge.specs.Search.{AreRunnable, IsReady, IsFound, IsEnd, HasAdded};
+ghost use Rattle.candidate_runs.specs.Candidates.{AreRunnable};
+ghost use Rattle.slow_judge.specs.Search.{IsReady, IsFound, IsEnd, HasAdded};
 
 use crate::bench::Bench;
 use crate::search::{Tape, least_cover, least_uncovered};

@@ -6,7 +6,8 @@ ghost use Rattle.points.specs.Tapes.{need_of, widest_choice};
 ghost use Rattle.verdicts.specs.Trail.{IsLeastUncovered, AreAllCovered};
 ghost use Rattle.verdicts.specs.Covers.{IsLeastCover, HasNoCover};
 ghost use Rattle.pair_costs.specs.Small.{AreSmall};
-ghost use Rattle.slow_judge.specs.Search.{AreRunnable, HaveNoPointers, IsShapeOf, IsCell, IsReady, IsLeastAmong, AreCoveredAmong};
+ghost use Rattle.candidate_runs.specs.Candidates.{AreRunnable};
+ghost use Rattle.slow_judge.specs.Search.{HaveNoPointers, IsShapeOf, IsCell, IsReady, IsLeastAmong, AreCoveredAmong};
 
 use crate::bench::Bench;
 use crate::cells::{first, layout_of, next_cell, zeros};

@@ -9,7 +9,7 @@ use Rattle.term_rules.specs.Wrapping.{Fits, IsExactFactor, IsExactShift, IsKept,
 use Rattle.term_rules.specs.declared.wrapping.Plain.{Plain}
 use Rattle.term_rules.specs.declared.wrapping.Plain.TheVariants.{Product, Shift, Sum}
 use Rattle.term_rules.proofs.Simplifying.{same_tree}
-use Rattle.term_rules.proofs.Common.{ap, ℕ, ◌≡◌, ◌<◌, ◌≤◌, ◌+◌, ◌-◌, ◌*◌, ◌/◌, ◌%◌, ◌^◌, Bool, true, false, cond, eqb, inl, inr, nat_lt, nat_eq, not, bit_or, or_add_and, truth, arith, ◌∙◌, sym, subst, refl, eqb-true, cases_lt, lt-ltb, le-ltb, div-add-mod', add-mod_right, mod-eq_of_lt, mul_comm, mul-mod_left, mul-div_cancel, add-mul-mod_self_right, pow-add, ne_eqb, shifted_left, quotient, remainder, List, length, TermId, Term, Tree, value_of, width_of, AreInRange, Makes, term_at, bit_at, tree_in}
+use Rattle.term_rules.proofs.Common.{ap, ℕ, ◌≡◌, ◌<◌, ◌≤◌, ◌+◌, ◌-◌, ◌*◌, ◌/◌, ◌%◌, ◌^◌, Bool, true, false, cond, eqb, inl, inr, nat_lt, nat_eq, not, bit_or, or_add_and, truth, arith, ◌∙◌, sym, subst, refl, eqb-true, cases_lt, lt-ltb, le-ltb, div-add-mod', add-mod_right, mod-eq_of_lt, mul_comm, mul-mod_left, mul-div_cancel, add-mul-mod_self_right, pow-add, ne_eqb, shifted_left, quotient, remainder, List, length, TermId, Term, Tree, value_of, width_of, weight_of, AreInRange, Makes, term_at, bit_at, tree_in}
 
 -- a number below the square whose high half is 0
 pub low-half : (w n : ℕ) → n < 2 ^ (w + w) → n / 2 ^ w % 2 ^ w ≡ 0 → n < 2 ^ w
@@ -123,6 +123,7 @@ module _ (terms : List Term) (p a b x y : TermId) (n : ℕ) (is : tree.Binary op
   first_factor lx same = record {
     within = lx;
     wide = wide ∙ ap width_of is;
+    least = omega (arith, ap weight_of is);
     says = λ v e. whole v e ∙ ap (λ (t : Tree). term_at v terms x * value_of v t) (same_tree terms y b same);
   }
 
@@ -130,6 +131,7 @@ module _ (terms : List Term) (p a b x y : TermId) (n : ℕ) (is : tree.Binary op
   second_factor ly wide_y same = record {
     within = ly;
     wide = wide_y ∙ ap width_of is;
+    least = omega (arith, ap weight_of is);
     says = λ v e. whole v e ∙ (mul_comm (term_at v terms x) (term_at v terms y) ∙ ap (λ (t : Tree). term_at v terms y * value_of v t) (same_tree terms x b same));
   }
 
@@ -140,6 +142,7 @@ exact_shift terms p a b x amount n is lt wide kept same =
     record {
       within = lt;
       wide = wide ∙ ap width_of is;
+      least = omega (arith, ap weight_of is);
       says = λ v e.
           let number = term_at v terms x in
           let by = term_at v terms amount in
@@ -163,6 +166,7 @@ module _ (terms : List Term) (p a b x y : TermId) (n : ℕ) (range : AreInRange 
   second_part c h = record {
     within = ly;
     wide = wide_y ∙ ap width_of is;
+    least = omega (arith, ap weight_of is);
     says = λ v e.
         let turned : term_at v terms y + term_at v terms c * term_at v terms b ≡ term_at v terms a = ap (λ k. term_at v terms y + k) (sym (h.says v e)) ∙ (let f : term_at v terms y + term_at v terms x ≡ term_at v terms x + term_at v terms y = omega arith in f ∙ sym (sum v e)) in
         rest-of-multiple (term_at v terms c) (term_at v terms y) (term_at v terms b) ∙ ap (λ k. remainder k (term_at v terms b)) turned;
@@ -172,6 +176,7 @@ module _ (terms : List Term) (p a b x y : TermId) (n : ℕ) (range : AreInRange 
   first_part c h = record {
     within = lx;
     wide = wide_x ∙ ap width_of is;
+    least = omega (arith, ap weight_of is);
     says = λ v e.
         let turned : term_at v terms x + term_at v terms c * term_at v terms b ≡ term_at v terms a = ap (λ k. term_at v terms x + k) (sym (h.says v e)) ∙ sym (sum v e) in
         rest-of-multiple (term_at v terms c) (term_at v terms x) (term_at v terms b) ∙ ap (λ k. remainder k (term_at v terms b)) turned;

@@ -4,6 +4,7 @@ use Rattle.bv_terms.specs.declared.term.TermId.{TermId}
 use Rattle.bv_terms.specs.declared.term.Term.{Term}
 use Rattle.bv_terms.specs.Tree.{quotient, remainder, shifted_left, shifted_right, width_of}
 use Rattle.bv_terms.specs.Trees.{bit_at, term_at, tree_in}
+use Rattle.known_values.specs.Weight.{weight_of}
 use Rattle.term_rules.specs.declared.comparing.Scaled.{Scaled}
 use Rattle.term_rules.specs.declared.wrapping.Pair.{Pair}
 use Rattle.term_rules.specs.declared.wrapping.Plain.{Plain}
@@ -38,18 +39,21 @@ pub record IsExactFactor (terms : List Term) (p a b rest : TermId) : Type 0 wher
   pub within : rest.index < length terms
   pub wide : width_of (tree_in terms rest) ≡ width_of (tree_in terms a)
   pub says : (v : ℕ → ℕ → ℕ) → bit_at v terms p ≡ false → term_at v terms a ≡ term_at v terms rest * term_at v terms b
+  pub least : weight_of (tree_in terms rest) ≤ weight_of (tree_in terms a)
 
 -- where the condition is false, the first is the second shifted left by this, and no bit is lost
 pub record IsExactShift (terms : List Term) (p a b amount : TermId) : Type 0 where
   pub within : amount.index < length terms
   pub wide : width_of (tree_in terms amount) ≡ width_of (tree_in terms a)
   pub says : (v : ℕ → ℕ → ℕ) → bit_at v terms p ≡ false → term_at v terms a ≡ shifted_left (width_of (tree_in terms a)) 1 (term_at v terms amount) * term_at v terms b
+  pub least : weight_of (tree_in terms amount) < weight_of (tree_in terms a)
 
 -- where the condition is false, the first and this leave the same when they are divided by the second
 pub record IsRestWhere (terms : List Term) (p a b rest : TermId) : Type 0 where
   pub within : rest.index < length terms
   pub wide : width_of (tree_in terms rest) ≡ width_of (tree_in terms a)
   pub says : (v : ℕ → ℕ → ℕ) → bit_at v terms p ≡ false → remainder (term_at v terms rest) (term_at v terms b) ≡ remainder (term_at v terms a) (term_at v terms b)
+  pub least : weight_of (tree_in terms rest) ≤ weight_of (tree_in terms a)
 
 -- where the condition is false, the term is the number's quotient by the other, without a remainder
 pub record IsExactQuotient (terms : List Term) (p a : TermId) (s : Scaled) : Type 0 where

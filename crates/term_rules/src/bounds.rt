@@ -18,7 +18,9 @@ fn bits_before(terms: &Terms, a: TermId) -> u32
 {
     terms.values_fit();
     match term(terms, a) {
+        // zext iN X to iM u< (1 << N)
         Term::Zext { a: inner, .. } => terms.width(inner),
+        // iN X u< (1 << N)
         _ => terms.width(a),
     }
 }
@@ -32,7 +34,9 @@ fn is_small(terms: &Terms, a: TermId) -> bool
     terms.values_fit();
     let width = terms.width(a);
     match term(terms, a) {
+        // zext iN X to iM u< (1 << (M - 1)), if N < M
         Term::Zext { a: inner, .. } => terms.width(inner) < width,
+        // mul (zext iN X to iM), (zext iK Y to iM) u< (1 << (M - 1)), if N + K < M
         Term::Binary(BinaryOp::Mul, first, second, _) => bits_before(terms, first)
             + bits_before(terms, second)
             < width,
@@ -47,6 +51,8 @@ pub fn is_sum_with(terms: &Terms, a: TermId, b: TermId) -> bool
     ensures { IsTrue result → (v : ℕ → ℕ → ℕ) → term_at v terms.now b ≤ term_at v terms.now a }
 {
     match term(terms, a) {
+        // icmp ult (add X, Y), X --> false, if X and Y u< (1 << (width - 1))
+        // icmp ult (add X, Y), Y --> false, under the same condition
         Term::Binary(BinaryOp::Add, first, second, _) => {
             if is_small(terms, first) {
                 if is_small(terms, second) {
@@ -66,20 +72,25 @@ pub fn most(terms: &Terms, a: TermId) -> u128
     ensures { (v : ℕ → ℕ → ℕ) → term_at v terms.now a ≤ result }
 {
     terms.values_fit();
+    // zext iN X to iM u<= (1 << N) - 1
     let bound = ones(bits_before(terms, a));
     match term(terms, a) {
+        // urem X, C u<= C - 1, if C != 0
         Term::Binary(BinaryOp::Urem, _, second, _) => match number(terms, second) {
             Some(by) if by > 0 => by - 1,
             _ => bound,
         },
+        // udiv (zext iN X to iM), C u<= ((1 << N) - 1) / C, if C != 0
         Term::Binary(BinaryOp::Udiv, first, second, _) => match number(terms, second) {
             Some(by) if by > 0 => ones(bits_before(terms, first)) / by,
             _ => bound,
         },
+        // and X, C u<= C
         Term::Binary(BinaryOp::And, _, second, _) => match number(terms, second) {
             Some(mask) => mask,
             None => bound,
         },
+        // lshr (zext iN X to iM), C u<= ((1 << N) - 1) >> C, if C < 128
         Term::Binary(BinaryOp::Lshr, first, second, _) => match number(terms, second) {
             Some(count) if count < 128 => ones(bits_before(terms, first)) >> count as u32,
             _ => bound,
@@ -93,6 +104,7 @@ pub fn has_no_sign(terms: &Terms, a: TermId) -> bool
     requires { a.index < length terms.now }
     ensures { IsTrue result → (v : ℕ → ℕ → ℕ) → is_negative (width_of (tree_in terms.now a)) (term_at v terms.now a) ≡ false }
 {
+    // icmp slt X, 0 --> false, if most(X) u< (1 << (width - 1))
     let width = terms.width(a);
     most(terms, a) < 1 << (width - 1)
 }
@@ -105,6 +117,7 @@ pub fn is_below_number(terms: &Terms, a: TermId, b: TermId) -> bool
     ensures { IsTrue result → (v : ℕ → ℕ → ℕ) → term_at v terms.now a < term_at v terms.now b }
 {
     match number(terms, b) {
+        // icmp ult X, C --> true, if most(X) u< C
         Some(value) => value > most(terms, a),
         None => false,
     }
@@ -117,6 +130,7 @@ pub fn is_remainder_by(terms: &Terms, a: TermId, b: TermId) -> bool
     ensures { IsTrue result → IsReduced terms.now a b }
 {
     match term(terms, a) {
+        // icmp ult (urem X, Y), Y --> icmp ne Y, 0
         Term::Binary(BinaryOp::Urem, _, second, _) => second.index == b.index,
         _ => false,
     }
@@ -129,6 +143,7 @@ pub fn leaves(terms: &Terms, a: TermId, b: TermId) -> bool
     ensures { IsTrue result → (v : ℕ → ℕ → ℕ) → term_at v terms.now b ≤ term_at v terms.now a }
 {
     match term(terms, b) {
+        // icmp ult X, (urem X, Y) --> false
         Term::Binary(BinaryOp::Urem, first, _, _) => first.index == a.index,
         _ => false,
     }

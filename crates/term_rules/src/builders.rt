@@ -110,6 +110,8 @@ pub fn add(terms: &mut Terms, a: TermId, b: TermId) -> Result<TermId, NoMemory>
     ensures least { IfOk result (λ id. weight_of (tree_in terms.new id) ≤ weight_of (tree.Binary op.Add (tree_in terms.old a) (tree_in terms.old b) (width_of (tree_in terms.old a)))) }
     ensures kept { Keeps terms.old terms.new }
 {
+    // add (mul X, Y), (mul X, Z) --> mul X, (add Y, Z), if Y and Z differ,
+    // for X as either factor of each product
     if let Some(parts) = common_factor(terms, a, b) {
         let id = distributed(terms, parts)?;
         return Ok(id);
@@ -128,15 +130,22 @@ pub fn sub(terms: &mut Terms, a: TermId, b: TermId) -> Result<TermId, NoMemory>
     ensures kept { Keeps terms.old terms.new }
 {
     terms.values_fit();
+    // sub C, (zext iN X to iM) --> zext (not X) to iM, if C = (1 << N) - 1
     if let Some(inner) = rest_of_ones(terms, a, b) {
         let width = terms.width(a);
         let id = widened_inverse(terms, inner, width)?;
         return Ok(id);
     }
+    // sub X, (mul (udiv X, Y), Y) --> urem X, Y
     if let Some(by) = divisor(terms, a, b) {
         let id = urem(terms, a, by)?;
         return Ok(id);
     }
+    // sub X, (mul (sdiv X, Y), Y) --> srem X, Y, where these are the selects over udiv and urem:
+    // sdiv X, Y = select (xor S, T), (sub 0, Q), Q; Q = udiv A, B; S and T are the signs;
+    // A = select S, (sub 0, X), X; B = select T, (sub 0, Y), Y;
+    // srem X, Y = select S, (sub 0, R), R; R = urem A, B.
+    // The same for Y without a sign: B = Y, and S instead of xor S, T
     if let Some(parts) = signed_multiple(terms, a, b) {
         let id = signed_remainder(terms, parts)?;
         return Ok(id);
@@ -167,6 +176,7 @@ pub fn udiv(terms: &mut Terms, a: TermId, b: TermId) -> Result<TermId, NoMemory>
     ensures least { IfOk result (λ id. weight_of (tree_in terms.new id) ≤ weight_of (tree.Binary op.Udiv (tree_in terms.old a) (tree_in terms.old b) (width_of (tree_in terms.old a)))) }
     ensures kept { Keeps terms.old terms.new }
 {
+    // udiv (zext iN X to iM), C --> zext (udiv X, C) to iM, if C != 0 and C u< (1 << N)
     if let Some(pair) = shrunk_by_number(terms, a, b) {
         let width = terms.width(a);
         let id = widened_quotient(terms, pair, width)?;
@@ -185,6 +195,8 @@ pub fn urem(terms: &mut Terms, a: TermId, b: TermId) -> Result<TermId, NoMemory>
     ensures least { IfOk result (λ id. weight_of (tree_in terms.new id) ≤ weight_of (tree.Binary op.Urem (tree_in terms.old a) (tree_in terms.old b) (width_of (tree_in terms.old a)))) }
     ensures kept { Keeps terms.old terms.new }
 {
+    // urem (zext iN X to iM), C --> zext (urem X, C) to iM, if C u< (1 << N)
+    // urem (zext iN X to iM), (zext iK Y to iM) --> zext (urem X, (zext Y to iN)) to iM, if K <= N
     if let Some(pair) = shrunk_pair(terms, a, b) {
         let width = terms.width(a);
         let id = widened_remainder(terms, pair, width)?;
@@ -243,6 +255,8 @@ pub fn eq(terms: &mut Terms, a: TermId, b: TermId) -> Result<TermId, NoMemory>
     ensures least { IfOk result (λ id. weight_of (tree_in terms.new id) ≤ weight_of (tree.Binary op.Eq (tree_in terms.old a) (tree_in terms.old b) (width_of (tree_in terms.old a)))) }
     ensures kept { Keeps terms.old terms.new }
 {
+    // icmp eq (zext iN X to iM), C --> icmp eq X, C, if C u< (1 << N)
+    // icmp eq (zext iN X to iM), (zext iK Y to iM) --> icmp eq X, (zext Y to iN), if K <= N
     if let Some(pair) = shrunk_pair(terms, a, b) {
         let id = are_equal(terms, pair)?;
         return Ok(id);
@@ -260,10 +274,14 @@ pub fn ult(terms: &mut Terms, a: TermId, b: TermId) -> Result<TermId, NoMemory>
     ensures least { IfOk result (λ id. weight_of (tree_in terms.new id) ≤ weight_of (tree.Binary op.Ult (tree_in terms.old a) (tree_in terms.old b) (width_of (tree_in terms.old a)))) }
     ensures kept { Keeps terms.old terms.new }
 {
+    // icmp ult (zext iN X to iM), C --> icmp ult X, C, if C u< (1 << N)
+    // icmp ult (zext iN X to iM), (zext iK Y to iM) --> icmp ult X, (zext Y to iN), if K <= N
     if let Some(pair) = shrunk_pair(terms, a, b) {
         let id = is_less(terms, pair)?;
         return Ok(id);
     }
+    // icmp ult C, (zext iN X to iM) --> icmp ult C, X, if C u< (1 << N)
+    // icmp ult (zext iK Y to iM), (zext iN X to iM) --> icmp ult (zext Y to iN), X, if K <= N
     if let Some(pair) = shrunk_pair(terms, b, a) {
         let id = is_greater(terms, pair)?;
         return Ok(id);
@@ -282,10 +300,16 @@ pub fn slt(terms: &mut Terms, a: TermId, b: TermId) -> Result<TermId, NoMemory>
     ensures kept { Keeps terms.old terms.new }
 {
     terms.values_fit();
+    // icmp slt (zext iN X to iM), C --> icmp ult X, C, if N < M and C u< (1 << N)
+    // icmp slt (zext iN X to iM), (zext iK Y to iM) --> icmp ult X, (zext Y to iN),
+    // if K <= N < M
     if let Some(pair) = shrunk_further(terms, a, b) {
         let id = is_less(terms, pair)?;
         return Ok(id);
     }
+    // icmp slt C, (zext iN X to iM) --> icmp ult C, X, if N < M and C u< (1 << N)
+    // icmp slt (zext iK Y to iM), (zext iN X to iM) --> icmp ult (zext Y to iN), X,
+    // if K <= N < M
     if let Some(pair) = shrunk_further(terms, b, a) {
         let id = is_greater(terms, pair)?;
         return Ok(id);
@@ -305,18 +329,28 @@ pub fn ite(terms: &mut Terms, c: TermId, a: TermId, b: TermId) -> Result<TermId,
     ensures least { IfOk result (λ id. weight_of (tree_in terms.new id) ≤ weight_of (tree.Ite (tree_in terms.old c) (tree_in terms.old a) (tree_in terms.old b) (width_of (tree_in terms.old a)))) }
     ensures kept { Keeps terms.old terms.new }
 {
+    // X = select D, (sub 0, A), A, if A u<= (1 << (width - 1)):
+    // select (icmp slt X, 0), (sub 0, X), X --> A
+    // select (icmp slt X, 0), (sub 0, A), A --> X
     if let Some(id) = known_choice(terms, c, a, b) {
         return Ok(id);
     }
+    // select (icmp slt (sub 0, X), 0), X, (sub 0, X) --> select (icmp slt X, 0), (sub 0, X), X
     if is_of_opposite(terms, c, a, b) {
         let id = magnitude(terms, a, b)?;
         return Ok(id);
     }
     let width = terms.width(a);
+    // select C, (zext iN X to iM), C1 --> zext (select C, X, C1) to iM, if C1 u< (1 << N)
+    // select C, (zext iN X to iM), (zext iK Y to iM) --> zext (select C, X, (zext Y to iN)) to iM,
+    // if K <= N
     if let Some(pair) = shrunk_pair(terms, a, b) {
         let id = widened_choice(terms, c, pair, width)?;
         return Ok(id);
     }
+    // select C, C1, (zext iN X to iM) --> zext (select C, C1, X) to iM, if C1 u< (1 << N)
+    // select C, (zext iK Y to iM), (zext iN X to iM) --> zext (select C, (zext Y to iN), X) to iM,
+    // if K <= N
     if let Some(pair) = shrunk_pair(terms, b, a) {
         let id = widened_choice_turned(terms, c, pair, width)?;
         return Ok(id);
@@ -334,6 +368,9 @@ pub fn extract(terms: &mut Terms, a: TermId, from: u32, width: u32) -> Result<Te
     ensures least { IfOk result (λ id. weight_of (tree_in terms.new id) ≤ weight_of (tree.Extract (tree_in terms.old a) from width)) }
     ensures kept { Keeps terms.old terms.new }
 {
+    // trunc (add X, Y) to iN --> add (trunc X to iN), (trunc Y to iN), if X or Y is a constant,
+    // a zext or sext of at most N bits, or a udiv of two zexts of N bits; the same for sub, mul,
+    // and, or, xor, and for select by its arms
     if from == 0 && width < terms.width(a) {
         let id = low(terms, a, width)?;
         return Ok(id);

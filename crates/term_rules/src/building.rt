@@ -19,19 +19,24 @@ fn folded(terms: &Terms, term: &Term) -> Option<u128>
 {
     match *term {
         Term::Constant { .. } | Term::Variable { .. } => None,
+        // not C --> ~C
         Term::Not { a, width } => Some(inverse(number(terms, a)?, width)),
+        // op C1, C2 --> C, for each binary operation and icmp eq, ult, slt
         Term::Binary(op, a, b, width) => {
             let (x, y) = numbers(terms, a, b)?;
             Some(binary(op, x, y, width))
         }
+        // select C, C1, C2 --> C1, if C != 0, and else C2
         Term::Ite { c, a, b, .. } => {
             let (x, y) = numbers(terms, a, b)?;
             Some(choice(number(terms, c)?, x, y))
         }
+        // trunc (lshr C, K) to iN --> C1
         Term::Extract { a, from, width } => {
             let _whole = terms.width(a);
             Some(part(number(terms, a)?, from, width))
         }
+        // or disjoint (shl (zext C1), N), (zext iN C2) --> C
         Term::Concat {
             high,
             low,
@@ -42,7 +47,9 @@ fn folded(terms: &Terms, term: &Term) -> Option<u128>
             let (x, y) = numbers(terms, high, low)?;
             Some(joined(x, y, below))
         }
+        // zext C --> C
         Term::Zext { a, .. } => Some(number(terms, a)?),
+        // sext C --> C1
         Term::Sext { a, from, width } => {
             let _narrow = terms.width(a);
             Some(extended(number(terms, a)?, from, width))
@@ -91,6 +98,7 @@ fn raise(terms: &mut Terms, a: TermId, by: u128, width: u32) -> Result<TermId, N
     ensures least { IfOk result (λ id. weight_of (tree_in terms.new id) ≤ 2 + weight_of (tree_in terms.old a)) }
     ensures kept { Keeps terms.old terms.new }
 {
+    // add X, C
     let b = store(terms, Term::Constant { value: by, width })?;
     let id = apply(terms, Term::Binary(BinaryOp::Add, a, b, width))?;
     Ok(id)
@@ -103,6 +111,7 @@ fn shift(terms: &mut Terms, a: TermId, by: u128, width: u32) -> Result<TermId, N
     ensures least { IfOk result (λ id. weight_of (tree_in terms.new id) ≤ 2 + weight_of (tree_in terms.old a)) }
     ensures kept { Keeps terms.old terms.new }
 {
+    // shl X, C
     let b = store(terms, Term::Constant { value: by, width })?;
     let id = apply(terms, Term::Binary(BinaryOp::Shl, a, b, width))?;
     Ok(id)
@@ -115,6 +124,7 @@ fn divide(terms: &mut Terms, a: TermId, by: u128, width: u32) -> Result<TermId, 
     ensures least { IfOk result (λ id. weight_of (tree_in terms.new id) ≤ 2 + weight_of (tree_in terms.old a)) }
     ensures kept { Keeps terms.old terms.new }
 {
+    // udiv X, C
     let b = store(terms, Term::Constant { value: by, width })?;
     let id = apply(terms, Term::Binary(BinaryOp::Udiv, a, b, width))?;
     Ok(id)
@@ -127,6 +137,7 @@ fn not_zero(terms: &mut Terms, a: TermId, width: u32) -> Result<TermId, NoMemory
     ensures least { IfOk result (λ id. weight_of (tree_in terms.new id) ≤ 3 + weight_of (tree_in terms.old a)) }
     ensures kept { Keeps terms.old terms.new }
 {
+    // icmp ne X, 0, as not (icmp eq X, 0)
     let zero = store(terms, Term::Constant { value: 0, width })?;
     let is_zero = apply(terms, Term::Binary(BinaryOp::Eq, a, zero, width))?;
     let id = apply(

@@ -27,9 +27,13 @@ fn choice_of_truths(terms: &Terms, c: TermId, a: TermId, b: TermId) -> Option<Fo
 {
     terms.values_fit();
     match (number(terms, a), number(terms, b)) {
+        // select C, true, false --> C
         (Some(x), Some(y)) if x == 1 && y == 0 => Some(Form::Known(c)),
+        // select C, false, true --> not C
         (Some(x), Some(y)) if x == 0 && y == 1 => Some(Form::Built(Term::Not { a: c, width: 1 })),
+        // select C, true, X --> or C, X
         (Some(x), None) if x == 1 => Some(Form::Built(Term::Binary(BinaryOp::Or, c, b, 1))),
+        // select C, X, false --> and C, X
         (None, Some(y)) if y == 0 => Some(Form::Built(Term::Binary(BinaryOp::And, c, a, 1))),
         _ => None,
     }
@@ -42,6 +46,8 @@ fn arm_where_true(terms: &Terms, c: TermId, a: TermId) -> Option<TermId>
     ensures { IfSome result (IsArm terms.now c true a) }
 {
     match term(terms, a) {
+        // select C, (select D, X, Y), Z --> select C, X, Z, if C implies D
+        // select C, (select D, X, Y), Z --> select C, Y, Z, if C implies not D
         Term::Ite {
             c: d,
             a: first,
@@ -62,6 +68,8 @@ fn arm_where_false(terms: &Terms, c: TermId, a: TermId) -> Option<TermId>
     ensures { IfSome result (IsArm terms.now c false a) }
 {
     match term(terms, a) {
+        // select C, Z, (select D, X, Y) --> select C, Z, X, if not C implies D
+        // select C, Z, (select D, X, Y) --> select C, Z, Y, if not C implies not D
         Term::Ite {
             c: d,
             a: first,
@@ -86,6 +94,7 @@ fn where_true(terms: &Terms, c: TermId, a: TermId) -> TermId
 {
     let mut at = a;
     for _ in 0..CHOICES {
+        // select C, (select D, X, Y), Z --> select C, X, Z or select C, Y, Z, for each such D
         match arm_where_true(terms, c, at) {
             Some(arm) => at = arm,
             None => return at,
@@ -105,6 +114,7 @@ fn where_false(terms: &Terms, c: TermId, a: TermId) -> TermId
 {
     let mut at = a;
     for _ in 0..CHOICES {
+        // select C, Z, (select D, X, Y) --> select C, Z, X or select C, Z, Y, for each such D
         match arm_where_false(terms, c, at) {
             Some(arm) => at = arm,
             None => return at,
@@ -123,9 +133,12 @@ fn choice_of_arms(terms: &Terms, c: TermId, a: TermId, b: TermId) -> Form
     ensures { Simplifies terms.now (tree.Ite (tree_in terms.now c) (tree_in terms.now a) (tree_in terms.now b) (width_of (tree_in terms.now a))) result }
 {
     let width = terms.width(a);
+    // select C, X, X --> X, also if the arms are equal by their sums or operand by operand
     if are_equal_terms(terms, a, b) {
         return Form::Known(a);
     }
+    // select false, X, Y --> Y
+    // select true, X, Y --> X
     if let Some(condition) = number(terms, c) {
         return if condition == 0 {
             Form::Known(b)
@@ -134,6 +147,10 @@ fn choice_of_arms(terms: &Terms, c: TermId, a: TermId, b: TermId) -> Form
         };
     }
     if width == 1 {
+        // select i1 C, true, false --> C
+        // select i1 C, false, true --> not C
+        // select i1 C, true, X --> or C, X
+        // select i1 C, X, false --> and C, X
         if let Some(form) = choice_of_truths(terms, c, a, b) {
             return form;
         }
@@ -150,7 +167,9 @@ fn choice_by(terms: &Terms, c: TermId, a: TermId, b: TermId) -> Form
     requires alike { width_of (tree_in terms.now a) ≡ width_of (tree_in terms.now b) }
     ensures { Simplifies terms.now (tree.Ite (tree_in terms.now c) (tree_in terms.now a) (tree_in terms.now b) (width_of (tree_in terms.now a))) result }
 {
+    // select C, (select C, X, Y), Z --> select C, X, Z
     let first = where_true(terms, c, a);
+    // select C, X, (select C, Y, Z) --> select C, X, Z
     let second = where_false(terms, c, b);
     choice_of_arms(terms, c, first, second)
 }
@@ -166,6 +185,7 @@ pub fn choice(terms: &Terms, c: TermId, a: TermId, b: TermId) -> Form
 {
     terms.values_fit();
     match term(terms, c) {
+        // select (not C), X, Y --> select C, Y, X
         Term::Not { a: turned, .. } => choice_by(terms, turned, b, a),
         _ => choice_by(terms, c, a, b),
     }

@@ -27,6 +27,7 @@ fn exact_quotient(terms: &Terms, p: TermId, a: TermId) -> Option<Scaled>
     terms.values_fit();
     match term(terms, a) {
         Term::Binary(BinaryOp::Udiv, x, y, _) => {
+            // udiv exact X, Y, where icmp ne (urem X, Y), 0 is a disjunct of the condition
             if is_plain(terms, p, Plain::Quotient { x, y }) {
                 Some(Scaled { number: x, by: y })
             } else {
@@ -48,6 +49,8 @@ fn exact_product(terms: &Terms, p: TermId, a: TermId) -> Option<Scaled>
     match term(terms, a) {
         Term::Binary(BinaryOp::Mul, x, y, _) => match number(terms, y) {
             Some(value) if value > 0 => {
+                // mul nuw X, C, if C != 0, where icmp ne H, 0 is a disjunct of the condition,
+                // for H the high half of mul (zext X), (zext C) at twice the width
                 if is_plain(terms, p, Plain::Product { x, y }) {
                     Some(Scaled { number: x, by: y })
                 } else {
@@ -70,6 +73,7 @@ fn dividends(terms: &Terms, p: TermId, a: TermId, b: TermId) -> Option<Pair>
 {
     let first = exact_quotient(terms, p, a)?;
     let second = exact_quotient(terms, p, b)?;
+    // icmp ult (udiv exact X, Z), (udiv exact Y, Z) --> icmp ult X, Y
     if first.by.index == second.by.index {
         Some(Pair {
             first: first.number,
@@ -89,6 +93,7 @@ fn multiplicands(terms: &Terms, p: TermId, a: TermId, b: TermId) -> Option<Pair>
 {
     let first = exact_product(terms, p, a)?;
     let second = exact_product(terms, p, b)?;
+    // icmp ult (mul nuw X, C), (mul nuw Y, C) --> icmp ult X, Y, if C != 0
     if first.by.index == second.by.index {
         Some(Pair {
             first: first.number,
@@ -107,9 +112,11 @@ pub fn ordered_where(terms: &Terms, poison: TermId, a: TermId, b: TermId) -> Pai
     requires alike { width_of (tree_in terms.now a) ≡ width_of (tree_in terms.now b) }
     ensures { HaveOneOrder terms.now poison a b result }
 {
+    // icmp ult (udiv exact X, Z), (udiv exact Y, Z) --> icmp ult X, Y
     if let Some(pair) = dividends(terms, poison, a, b) {
         return pair;
     }
+    // icmp ult (mul nuw X, C), (mul nuw Y, C) --> icmp ult X, Y, if C != 0
     if let Some(pair) = multiplicands(terms, poison, a, b) {
         return pair;
     }

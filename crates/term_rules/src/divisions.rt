@@ -17,6 +17,7 @@ use known_values::numbers::ones;
 use term_sums::{number, term};
 
 /// The product of two numbers, if it fits the width.
+// mul C1, C2 at iN, if it is nuw
 fn product_within(a: u128, b: u128, width: u32) -> Option<u128>
     requires { IsWidth width }
     ensures { IfSome result (λ p. (p ≡ a * b) × (p < 2 ^ width)) }
@@ -39,12 +40,15 @@ fn quotient_by(terms: &Terms, a: TermId, b: TermId, by: u128) -> Form
 {
     terms.values_fit();
     let width = terms.width(a);
+    // udiv X, 1 --> X
     if by == 1 {
         return Form::Known(a);
     }
+    // udiv X, C --> 0 if X is surely u< C
     if is_below_number(terms, a, b) {
         return Form::Built(Term::Constant { value: 0, width });
     }
+    // udiv (udiv X, C1), C2 --> udiv X, C1 * C2 if C1 != 0 and mul nuw C1, C2
     if let Some(inner) = divided_by_number(terms, a) {
         if let Some(product) = product_within(inner.by, by, width) {
             return Form::Divided {
@@ -67,12 +71,15 @@ fn remainder_by(terms: &Terms, a: TermId, b: TermId, by: u128) -> Form
 {
     terms.values_fit();
     let width = terms.width(a);
+    // urem X, 1 --> 0
     if by == 1 {
         return Form::Built(Term::Constant { value: 0, width });
     }
+    // urem X, C --> X if X is surely u< C
     if is_below_number(terms, a, b) {
         return Form::Known(a);
     }
+    // urem (urem X, C1), C2 --> urem X, C2 if C2 != 0 and C1 % C2 == 0
     match reduced_by_multiple(terms, a, by) {
         Some(inner) => Form::Built(Term::Binary(BinaryOp::Urem, inner, b, width)),
         None => Form::Built(Term::Binary(BinaryOp::Urem, a, b, width)),
@@ -88,6 +95,8 @@ pub fn quotient(terms: &Terms, a: TermId, b: TermId) -> Form
 {
     terms.values_fit();
     let width = terms.width(a);
+    // udiv (mul (udiv X, Y), Y), Y --> udiv X, Y
+    // udiv (sub X, (urem X, Y)), Y --> udiv X, Y
     if let Some(whole) = whole_of_multiple(terms, a, b) {
         return Form::Built(Term::Binary(BinaryOp::Udiv, whole, b, width));
     }
@@ -106,12 +115,16 @@ pub fn remainder(terms: &Terms, a: TermId, b: TermId) -> Form
 {
     terms.values_fit();
     let width = terms.width(a);
+    // urem X, X --> 0
     if a.index == b.index {
         return Form::Built(Term::Constant { value: 0, width });
     }
+    // urem (urem X, Y), Y --> urem X, Y
     if is_remainder_by(terms, a, b) {
         return Form::Known(a);
     }
+    // urem (mul (udiv X, Y), Y), Y --> 0
+    // urem (sub X, (urem X, Y)), Y --> 0
     if let Some(_whole) = whole_of_multiple(terms, a, b) {
         return Form::Built(Term::Constant { value: 0, width });
     }
@@ -122,6 +135,7 @@ pub fn remainder(terms: &Terms, a: TermId, b: TermId) -> Form
 }
 
 /// The low bits of a quotient of two numbers that were widened from as many bits.
+// trunc (udiv (zext iN X to iM), (zext iN Y to iM)) to iN --> udiv X, Y
 pub fn low_quotient(terms: &Terms, q: TermId, width: u32) -> Option<Form>
     requires { q.index < length terms.now }
     ensures { IfSome result (IsLow terms.now q width) }

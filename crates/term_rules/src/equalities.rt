@@ -21,6 +21,7 @@ pub fn are_equal_terms(terms: &Terms, a: TermId, b: TermId) -> bool
     are_equal_within(terms, a, b, DEPTH)
 }
 
+/// The same, where the operands are compared at most `depth` operations down.
 fn are_equal_within(terms: &Terms, a: TermId, b: TermId, depth: u32) -> bool
     requires a { a.index < length terms.now }
     requires b { b.index < length terms.now }
@@ -28,9 +29,11 @@ fn are_equal_within(terms: &Terms, a: TermId, b: TermId, depth: u32) -> bool
     ensures { IsTrue result → (v : ℕ → ℕ → ℕ) → term_at v terms.now a ≡ term_at v terms.now b }
 {
     terms.values_fit();
+    // icmp eq X, X --> true
     if a.index == b.index {
         return true;
     }
+    // icmp eq (add X, C1), (add X, C2) --> true if C1 == C2
     if let Some(by) = known_difference(terms, a, b) {
         return by == 0;
     }
@@ -39,11 +42,14 @@ fn are_equal_within(terms: &Terms, a: TermId, b: TermId, depth: u32) -> bool
     }
     let less = depth - 1;
     match (term(terms, a), term(terms, b)) {
+        // icmp eq (xor X, -1), (xor Y, -1) --> true if X == Y
         (Term::Not { a: x, .. }, Term::Not { a: y, .. }) => are_equal_within(terms, x, y, less),
+        // icmp eq (op X, Y), (op Z, T) --> true if X == Z and Y == T
         (Term::Binary(op, x, y, n), Term::Binary(other, z, t, m)) => op == other
             && n == m
             && are_equal_within(terms, x, z, less)
             && are_equal_within(terms, y, t, less),
+        // icmp eq (select C, X, Y), (select D, Z, T) --> true if C == D, X == Z and Y == T
         (
             Term::Ite { c, a: x, b: y, .. },
             Term::Ite {
@@ -57,6 +63,7 @@ fn are_equal_within(terms: &Terms, a: TermId, b: TermId, depth: u32) -> bool
                 && are_equal_within(terms, x, z, less)
                 && are_equal_within(terms, y, t, less)
         }
+        // icmp eq (trunc (lshr X, C)), (trunc (lshr Y, C)) --> true if X == Y
         (
             Term::Extract { a: x, from, .. },
             Term::Extract {
@@ -67,6 +74,8 @@ fn are_equal_within(terms: &Terms, a: TermId, b: TermId, depth: u32) -> bool
         ) => {
             from == other && terms.width(x) == terms.width(y) && are_equal_within(terms, x, y, less)
         }
+        // icmp eq (or (shl (zext X), C), (zext iC Y)), (or (shl (zext Z), C), (zext iC T))
+        //   --> true if X == Z and Y == T
         (
             Term::Concat {
                 high: x,
@@ -85,9 +94,11 @@ fn are_equal_within(terms: &Terms, a: TermId, b: TermId, depth: u32) -> bool
                 && are_equal_within(terms, x, z, less)
                 && are_equal_within(terms, y, t, less)
         }
+        // icmp eq (zext X), (zext Y) --> true if X == Y, of one width
         (Term::Zext { a: x, .. }, Term::Zext { a: y, .. }) => {
             terms.width(x) == terms.width(y) && are_equal_within(terms, x, y, less)
         }
+        // icmp eq (sext X), (sext Y) --> true if X == Y, of one width
         (
             Term::Sext { a: x, from, .. },
             Term::Sext {

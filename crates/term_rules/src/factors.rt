@@ -27,9 +27,11 @@ fn cofactor(terms: &Terms, a: TermId, common: TermId) -> Option<TermId>
     ensures { IfSome result (IsCofactor terms.now a common) }
 {
     match term(terms, a) {
+        // mul X, Y --> Y if X is the common factor
         Term::Binary(BinaryOp::Mul, first, second, _) if first.index == common.index => Some(
             second,
         ),
+        // mul Y, X --> Y if X is the common factor
         Term::Binary(BinaryOp::Mul, first, second, _) if second.index == common.index => Some(
             first,
         ),
@@ -37,7 +39,8 @@ fn cofactor(terms: &Terms, a: TermId, common: TermId) -> Option<TermId>
     }
 }
 
-/// The factor that two products plainly have in common. Equal products are no sum of two others.
+/// The factor that two products plainly have in common, and the other factor of each. `None` for
+/// one product twice: `arithmetic::sum` makes that a shift, `add A, A --> shl A, 1`.
 pub fn common_factor(terms: &Terms, a: TermId, b: TermId) -> Option<Factors>
     requires a { a.index < length terms.now }
     requires b { b.index < length terms.now }
@@ -48,6 +51,8 @@ pub fn common_factor(terms: &Terms, a: TermId, b: TermId) -> Option<Factors>
     }
     match term(terms, a) {
         Term::Binary(BinaryOp::Mul, left, right, _) => {
+            // add (mul X, Y), (mul X, Z) --> mul X, (add Y, Z)
+            // add (mul X, Y), (mul Z, X) --> mul X, (add Y, Z)
             if let Some(second) = cofactor(terms, b, left) {
                 return Some(Factors {
                     common: left,
@@ -55,6 +60,8 @@ pub fn common_factor(terms: &Terms, a: TermId, b: TermId) -> Option<Factors>
                     second,
                 });
             }
+            // add (mul Y, X), (mul X, Z) --> mul X, (add Y, Z)
+            // add (mul Y, X), (mul Z, X) --> mul X, (add Y, Z)
             if let Some(second) = cofactor(terms, b, right) {
                 return Some(Factors {
                     common: right,
@@ -69,6 +76,7 @@ pub fn common_factor(terms: &Terms, a: TermId, b: TermId) -> Option<Factors>
 }
 
 /// The product of the common factor with the sum of the others.
+// add (mul X, Y), (mul X, Z) --> mul X, (add Y, Z)
 pub fn distributed(terms: &mut Terms, factors: Factors) -> Result<TermId, NoMemory>
     requires common { factors.common.index < length terms.old }
     requires first { factors.first.index < length terms.old }

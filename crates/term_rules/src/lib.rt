@@ -8,6 +8,9 @@
 //! that solvers of bit vectors rewrite by (Bitwuzla, CAV 2023; Z3's rewriter; LLVM's InstCombine).
 //! The divisions of `wrapping` and the comparisons of `comparing` have their value only where a
 //! condition is false, that of poison; a shift of a constant stands for some quotients.
+//! A comment at a rule gives its pattern in the syntax of LLVM IR, `before --> after`: C is a
+//! constant, N and M are widths. Unlike LLVM's, the operations are total: `udiv X, 0` is all ones,
+//! `urem X, 0` is X, and `shl` and `lshr` by the width or more are 0.
 //! It uses `bv_terms`, `known_values` for operations on known numbers and for weights, and
 //! `term_sums` for what terms plainly are; the encoding of runs uses it.
 #![tactic(auto)]

@@ -1,10 +1,11 @@
 //! The low bits of operations on numbers that were widened.
 //!
 //! The low bits of a sum, a difference, a product or a bitwise operation come from only the low
-//! bits of its operands. Where one of these was widened from no more bits than these, or is a
-//! constant, its low bits have no more nodes than it has, and so the operation is moved to the
-//! smaller width. This goes two operations deep. The low bits of a choice are a choice between low
-//! bits.
+//! bits of its operands. Where one of these was widened from no more bits than these, is a
+//! constant, or is a quotient of numbers that were widened from as many bits as these, its low
+//! bits have no more nodes than it has, and so the operation is moved to the smaller width: it is
+//! `narrow` in the comments below. This goes two operations deep. The low bits of a choice are a
+//! choice between low bits.
 
 ghost use Rattle.std.specs.Prelude.{◌≡◌, ◌<◌, ◌≤◌, ◌+◌, ◌%◌, ◌^◌, ℕ, IfOk, IfSome, length};
 ghost use Rattle.bv_terms.specs.Tree.{width_of};
@@ -66,6 +67,7 @@ pub struct NarrowChoice {
 const CHOICES: u32 = 8;
 
 /// The operation that the term is, if it is such a one.
+// add, sub, mul, and, or, xor
 fn as_operation(terms: &Terms, a: TermId) -> Option<Operation>
     requires { a.index < length terms.now }
     ensures { IfSome result (IsOperation terms.now a) }
@@ -106,6 +108,7 @@ fn as_operation(terms: &Terms, a: TermId) -> Option<Operation>
 }
 
 /// The same operation with its operands the other way round.
+// sub X, Y --> Kind::Reverse of Y, X; the others are commutative
 fn turned(kind: Kind) -> Kind
     ensures { (width x y : ℕ) → operated result width y x ≡ operated kind width x y }
 {
@@ -131,16 +134,20 @@ fn narrow(terms: &Terms, a: TermId, width: u32) -> Option<Form>
     terms.values_fit();
     let _whole = terms.width(a);
     match term(terms, a) {
+        // trunc C to iN --> C % 2^N
         Term::Constant { value, .. } => {
             let value = cut(value, width);
             Some(Form::Built(Term::Constant { value, width }))
         }
+        // trunc (zext iM X) to iN --> zext X to iN if M <= N
         Term::Zext { a: inner, .. } if terms.width(inner) <= width => Some(widened(
             terms, inner, width,
         )),
+        // trunc (sext iM X) to iN --> sext X to iN if M <= N
         Term::Sext { a: inner, .. } if terms.width(inner) <= width => Some(widened_signed(
             terms, inner, width,
         )),
+        // trunc (udiv (zext iN X to iM), (zext iN Y to iM)) to iN --> udiv X, Y
         Term::Binary(BinaryOp::Udiv, ..) => low_quotient(terms, a, width),
         _ => None,
     }
@@ -155,6 +162,7 @@ fn first_narrow(terms: &Terms, a: TermId, width: u32) -> Option<Narrowing>
 {
     terms.values_fit();
     let whole = as_operation(terms, a)?;
+    // trunc (op X, Y) to iN --> op (trunc X), (trunc Y) if X is narrow
     if let Some(form) = narrow(terms, whole.a, width) {
         return Some(Narrowing {
             kind: whole.kind,
@@ -162,6 +170,7 @@ fn first_narrow(terms: &Terms, a: TermId, width: u32) -> Option<Narrowing>
             rest: whole.b,
         });
     }
+    // trunc (op X, Y) to iN --> op (trunc X), (trunc Y) if Y is narrow
     let form = narrow(terms, whole.b, width)?;
     let kind = turned(whole.kind);
     Some(Narrowing {
@@ -187,6 +196,7 @@ fn narrow_choice(terms: &Terms, a: TermId, width: u32) -> Option<NarrowChoice>
             b: second,
             ..
         } => {
+            // trunc (select C, X, Y) to iN --> select C, (trunc X), (trunc Y) if X is narrow
             if let Some(form) = narrow(terms, first, width) {
                 return Some(NarrowChoice {
                     c,
@@ -195,6 +205,7 @@ fn narrow_choice(terms: &Terms, a: TermId, width: u32) -> Option<NarrowChoice>
                     is_first: true,
                 });
             }
+            // trunc (select C, X, Y) to iN --> select C, (trunc X), (trunc Y) if Y is narrow
             let form = narrow(terms, second, width)?;
             Some(NarrowChoice {
                 c,
@@ -217,6 +228,7 @@ fn form_of(terms: &Terms, kind: Kind, a: TermId, b: TermId) -> Form
     match kind {
         Kind::Sum => arithmetic::sum(terms, a, b),
         Kind::Difference => arithmetic::difference(terms, a, b),
+        // Kind::Reverse of X, Y --> sub Y, X
         Kind::Reverse => arithmetic::difference(terms, b, a),
         Kind::Product => arithmetic::product(terms, a, b),
         Kind::Conjunction => bitwise::conjunction(terms, a, b),
@@ -234,6 +246,7 @@ fn plain_low(terms: &mut Terms, a: TermId, width: u32) -> Result<TermId, NoMemor
     ensures least { IfOk result (λ id. weight_of (tree_in terms.new id) ≤ 1 + weight_of (tree_in terms.old a)) }
     ensures kept { Keeps terms.old terms.new }
 {
+    // trunc X to iN --> X at iN if X is narrow
     if let Some(form) = narrow(terms, a, width) {
         let id = build(terms, form)?;
         return Ok(id);
@@ -260,6 +273,7 @@ fn chosen(
     ensures least { IfOk result (λ id. weight_of (tree_in terms.new id) ≤ 1 + weight_of (tree_in terms.old c) + weight_of (tree_in terms.old a) + weight_of (tree_in terms.old b)) }
     ensures kept { Keeps terms.old terms.new }
 {
+    // select C, A, B if A is for the first arm, else select C, B, A
     if is_first {
         let form = choice(terms, c, a, b);
         let id = build(terms, form)?;
@@ -283,6 +297,7 @@ fn choice_low(terms: &mut Terms, a: TermId, width: u32, fuel: u32) -> Result<Ter
     if fuel == 0 {
         return plain_low(terms, a, width);
     }
+    // trunc (select C, X, Y) to iN --> select C, (trunc X), (trunc Y) if X or Y is narrow
     match narrow_choice(terms, a, width) {
         Some(found) => {
             let first = build(terms, found.form)?;
@@ -308,6 +323,7 @@ fn joined(terms: &mut Terms, kind: Kind, a: TermId, b: TermId) -> Result<TermId,
 }
 
 /// The low bits, where an operation on plain terms is moved to the smaller width.
+// trunc (op X, Y) to iN --> op (trunc X), (trunc Y) if X or Y is narrow
 fn shallow_low(terms: &mut Terms, a: TermId, width: u32) -> Result<TermId, NoMemory>
     requires a { a.index < length terms.old }
     requires least { 1 ≤ width }
@@ -328,6 +344,9 @@ fn shallow_low(terms: &mut Terms, a: TermId, width: u32) -> Result<TermId, NoMem
 
 /// The low bits, where an operation on plain terms, or on one and such an operation, is moved to
 /// the smaller width.
+// trunc (op X, Y) to iN --> op (trunc X), (trunc Y) if X or Y is narrow
+// trunc (op X, (op2 Y, Z)) to iN --> op (trunc X), (op2 (trunc Y), (trunc Z))
+//   if X is narrow, and Y or Z is
 pub fn low(terms: &mut Terms, a: TermId, width: u32) -> Result<TermId, NoMemory>
     requires a { a.index < length terms.old }
     requires least { 1 ≤ width }

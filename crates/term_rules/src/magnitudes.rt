@@ -1,6 +1,7 @@
 //! Choices by the sign of a number in two's complement.
 //!
-//! The magnitude of `x` is `0 - x` where the sign of `x` is 1, and else `x`.
+//! The magnitude of `x` is `0 - x` where the sign of `x` is 1, and else `x`:
+//! `select (icmp slt X, 0), (sub 0, X), X`, which the comments below call abs X.
 
 ghost use Rattle.std.specs.Prelude.{◌≡◌, ◌<◌, ◌≤◌, ◌+◌, ◌-◌, ◌^◌, ℕ, IfOk, IfSome, IsTrue, cond, length};
 ghost use Rattle.bv_terms.specs.Tree as tree;
@@ -19,6 +20,7 @@ use support::NoMemory;
 use term_sums::{number, term};
 
 /// The term whose sign `c` plainly is.
+// trunc (lshr iN X, N-1) to i1, which is icmp slt X, 0
 fn signed_term(terms: &Terms, c: TermId) -> Option<TermId>
     requires { c.index < length terms.now }
     ensures { IfSome result (IsSign terms.now c) }
@@ -37,7 +39,8 @@ fn signed_term(terms: &Terms, c: TermId) -> Option<TermId>
     }
 }
 
-/// Whether the first plainly is 0 without the second.
+/// Whether the first plainly is 0 minus the second.
+// sub 0, B
 pub fn is_opposite(terms: &Terms, a: TermId, b: TermId) -> bool
     requires a { a.index < length terms.now }
     requires b { b.index < length terms.now }
@@ -53,6 +56,7 @@ pub fn is_opposite(terms: &Terms, a: TermId, b: TermId) -> bool
 }
 
 /// Whether the term plainly is the magnitude of a number.
+// select (icmp slt X, 0), (sub 0, X), X
 fn is_magnitude(terms: &Terms, a: TermId) -> bool
     requires { a.index < length terms.now }
     ensures { IsTrue result → (v : ℕ → ℕ → ℕ) → term_at v terms.now a ≤ 2 ^ (width_of (tree_in terms.now a) - 1) }
@@ -79,16 +83,20 @@ fn is_at_most_half(terms: &Terms, a: TermId) -> bool
 {
     terms.values_fit();
     let half = 1 << (terms.width(a) - 1);
+    // icmp ule iN X, 2^(N-1) --> true if bounds::most of X is u<= 2^(N-1)
     if most(terms, a) <= half {
         return true;
     }
     match term(terms, a) {
+        // icmp ule iN (urem (abs X), Y), 2^(N-1) --> true
         Term::Binary(BinaryOp::Urem, first, _, _) => is_magnitude(terms, first),
+        // icmp ule iN (abs X), 2^(N-1) --> true
         _ => is_magnitude(terms, a),
     }
 }
 
 /// The magnitude of the term, which plainly is that or its opposite, by some condition.
+// abs (select D, (sub 0, M), M) --> M if M is surely u<= 2^(N-1)
 fn magnitude_of(terms: &Terms, a: TermId) -> Option<TermId>
     requires { a.index < length terms.now }
     ensures { IfSome result (IsSigned terms.now a) }
@@ -124,9 +132,13 @@ pub fn known_choice(terms: &Terms, c: TermId, a: TermId, b: TermId) -> Option<Te
     let signed = signed_term(terms, c)?;
     let size = magnitude_of(terms, signed)?;
     if is_opposite(terms, a, b) {
+        // select (icmp slt X, 0), (sub 0, X), X --> M if X is select D, (sub 0, M), M
+        //   and M is surely u<= 2^(N-1)
         if b.index == signed.index {
             return Some(size);
         }
+        // select (icmp slt X, 0), (sub 0, M), M --> X if X is select D, (sub 0, M), M
+        //   and M is surely u<= 2^(N-1)
         if b.index == size.index {
             return Some(signed);
         }
@@ -135,6 +147,7 @@ pub fn known_choice(terms: &Terms, c: TermId, a: TermId, b: TermId) -> Option<Te
 }
 
 /// Whether the choice plainly is the magnitude of the opposite of `a`, which is `b`.
+// abs (sub 0, X) --> abs X
 pub fn is_of_opposite(terms: &Terms, c: TermId, a: TermId, b: TermId) -> bool
     requires c { c.index < length terms.now }
     requires a { a.index < length terms.now }
@@ -150,6 +163,7 @@ pub fn is_of_opposite(terms: &Terms, c: TermId, a: TermId, b: TermId) -> bool
 }
 
 /// The magnitude of a number, of which the opposite is given.
+// select (icmp slt (sub 0, X), 0), X, (sub 0, X) --> select (icmp slt X, 0), (sub 0, X), X
 pub fn magnitude(terms: &mut Terms, a: TermId, opposite: TermId) -> Result<TermId, NoMemory>
     requires a { a.index < length terms.old }
     requires opposite { opposite.index < length terms.old }

@@ -7,6 +7,7 @@ use bv_terms::{BinaryOp, Term, TermId, Terms};
 use term_sums::term;
 
 /// Whether the term plainly is the quotient of the two.
+// udiv A, B
 fn is_quotient(terms: &Terms, q: TermId, a: TermId, b: TermId) -> bool
     requires q { q.index < length terms.now }
     requires a { a.index < length terms.now }
@@ -28,9 +29,11 @@ pub fn divisor(terms: &Terms, a: TermId, b: TermId) -> Option<TermId>
 {
     match term(terms, b) {
         Term::Binary(BinaryOp::Mul, left, right, _) => {
+            // sub X, (mul (udiv X, Y), Y) --> urem X, Y
             if is_quotient(terms, left, a, right) {
                 return Some(right);
             }
+            // sub X, (mul Y, (udiv X, Y)) --> urem X, Y
             if is_quotient(terms, right, a, left) {
                 return Some(left);
             }
@@ -42,6 +45,8 @@ pub fn divisor(terms: &Terms, a: TermId, b: TermId) -> Option<TermId>
 
 /// What is plainly the sum of the two: the first is a quotient of it times the divisor, and the second
 /// is the remainder of that division.
+// add (mul (udiv X, Y), Y), (urem X, Y) --> X
+// add (mul Y, (udiv X, Y)), (urem X, Y) --> X
 pub fn dividend(terms: &Terms, a: TermId, b: TermId) -> Option<TermId>
     requires a { a.index < length terms.now }
     requires b { b.index < length terms.now }

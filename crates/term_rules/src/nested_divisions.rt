@@ -15,6 +15,7 @@ pub struct Division {
 }
 
 /// The operands of a quotient by a number other than 0.
+// udiv (udiv X, C1), C2 --> udiv X, C1 * C2 if C1 != 0 and mul nuw C1, C2
 pub fn divided_by_number(terms: &Terms, q: TermId) -> Option<Division>
     requires { q.index < length terms.now }
     ensures { IfSome result (IsDivided terms.now q) }
@@ -29,6 +30,7 @@ pub fn divided_by_number(terms: &Terms, q: TermId) -> Option<Division>
 }
 
 /// The dividend of a remainder by a multiple of the number.
+// urem (urem X, C1), C2 --> urem X, C2 if C2 != 0 and C1 % C2 == 0
 pub fn reduced_by_multiple(terms: &Terms, r: TermId, by: u128) -> Option<TermId>
     requires { r.index < length terms.now }
     ensures { IfSome result (IsReducedFrom terms.now r by) }
@@ -43,6 +45,8 @@ pub fn reduced_by_multiple(terms: &Terms, r: TermId, by: u128) -> Option<TermId>
 }
 
 /// The dividend from which `a` plainly takes its remainder by `b`.
+// udiv (sub X, (urem X, Y)), Y --> udiv X, Y
+// urem (sub X, (urem X, Y)), Y --> 0
 fn whole_of_difference(terms: &Terms, a: TermId, b: TermId) -> Option<TermId>
     requires a { a.index < length terms.now }
     requires b { b.index < length terms.now }
@@ -60,6 +64,8 @@ fn whole_of_difference(terms: &Terms, a: TermId, b: TermId) -> Option<TermId>
 }
 
 /// The dividend of the quotient `q` by `b`, if `a` plainly is the product of these.
+// udiv (mul (udiv X, Y), Y), Y --> udiv X, Y
+// urem (mul (udiv X, Y), Y), Y --> 0
 fn whole_of_quotient(terms: &Terms, a: TermId, b: TermId, q: TermId) -> Option<TermId>
     requires a { a.index < length terms.now }
     requires b { b.index < length terms.now }
@@ -83,12 +89,15 @@ pub fn whole_of_multiple(terms: &Terms, a: TermId, b: TermId) -> Option<TermId>
     ensures { IfSome result (IsWhole terms.now a b) }
 {
     match term(terms, a) {
+        // sub X, (urem X, Y)
         Term::Binary(BinaryOp::Sub, ..) => whole_of_difference(terms, a, b),
         Term::Binary(BinaryOp::Mul, left, right, _) => {
+            // mul (udiv X, Y), Y
             let found = whole_of_quotient(terms, a, b, left);
             if found.is_some() {
                 return found;
             }
+            // mul Y, (udiv X, Y)
             whole_of_quotient(terms, a, b, right)
         }
         _ => None,

@@ -17,12 +17,15 @@ pub fn may_be(terms: &Terms, a: TermId, value: u128) -> bool
     may_be_within(terms, a, value, DEPTH)
 }
 
+/// The same, where at most `depth` choices, one in an arm of the other, are looked into.
 fn may_be_within(terms: &Terms, a: TermId, value: u128, depth: u32) -> bool
     requires { a.index < length terms.now }
     ensures { IsFalse result → (v : ℕ → ℕ → ℕ) → nat_eq (term_at v terms.now a) value ≡ false }
 {
     match term(terms, a) {
+        // icmp eq C1, C2 --> false if C1 != C2
         Term::Constant { value: known, .. } => known == value,
+        // icmp eq (select B, X, Y), C --> false if icmp eq X, C and icmp eq Y, C are false
         Term::Ite {
             a: first,
             b: second,

@@ -22,7 +22,9 @@ pub fn left(terms: &Terms, a: TermId, b: TermId) -> Form
     terms.values_fit();
     let width = terms.width(a);
     match number(terms, b) {
+        // shl X, 0 --> X
         Some(count) if count == 0 => Form::Known(a),
+        // shl X, C --> 0, if C >= width (a term is never poison)
         Some(count) if count >= width as u128 => Form::Built(Term::Constant { value: 0, width }),
         _ => Form::Built(Term::Binary(BinaryOp::Shl, a, b, width)),
     }
@@ -37,7 +39,9 @@ pub fn logical_right(terms: &Terms, a: TermId, b: TermId) -> Form
 {
     let width = terms.width(a);
     match number(terms, b) {
+        // lshr X, 0 --> X
         Some(count) if count == 0 => Form::Known(a),
+        // lshr X, C --> 0, if C >= width (a term is never poison)
         Some(count) if count >= width as u128 => Form::Built(Term::Constant { value: 0, width }),
         _ => Form::Built(Term::Binary(BinaryOp::Lshr, a, b, width)),
     }
@@ -52,10 +56,12 @@ pub fn arithmetic_right(terms: &Terms, a: TermId, b: TermId) -> Form
 {
     terms.values_fit();
     let width = terms.width(a);
+    // ashr X, Y --> lshr X, Y, if the sign bit of X is 0
     if has_no_sign(terms, a) {
         return logical_right(terms, a, b);
     }
     match number(terms, b) {
+        // ashr X, 0 --> X
         Some(count) if count == 0 => Form::Known(a),
         _ => Form::Built(Term::Binary(BinaryOp::Ashr, a, b, width)),
     }

@@ -23,6 +23,7 @@ pub struct Shrunk {
 }
 
 /// The term that was widened with zeros to this one.
+// X of zext X
 pub fn before_widening(terms: &Terms, a: TermId) -> Option<TermId>
     requires { a.index < length terms.now }
     ensures { IfSome result (IsWidened terms.now a) }
@@ -45,6 +46,7 @@ pub fn shrunk_pair(terms: &Terms, a: TermId, b: TermId) -> Option<Shrunk>
     let first = before_widening(terms, a)?;
     let width = terms.width(first);
     if let Some(value) = number(terms, b) {
+        // op (zext X), C --> op X, (trunc C), if C fits the width of X
         if value <= ones(width) {
             return Some(Shrunk {
                 first,
@@ -53,6 +55,7 @@ pub fn shrunk_pair(terms: &Terms, a: TermId, b: TermId) -> Option<Shrunk>
         }
         return None;
     }
+    // op (zext X), (zext Y) --> op X, (zext Y), if Y is no wider than X
     let second = before_widening(terms, b)?;
     if terms.width(second) <= width {
         Some(Shrunk {
@@ -97,6 +100,7 @@ pub fn shrunk_further(terms: &Terms, a: TermId, b: TermId) -> Option<Shrunk>
 
 /// The term whose inverse, widened, is the difference of the two: the first is the greatest number
 /// of that term's width, and the second is that term widened.
+// sub C, (zext X) --> zext (xor X, -1), if C is 2^w - 1 with w the width of X
 pub fn rest_of_ones(terms: &Terms, a: TermId, b: TermId) -> Option<TermId>
     requires a { a.index < length terms.now }
     requires b { b.index < length terms.now }
@@ -114,6 +118,7 @@ pub fn rest_of_ones(terms: &Terms, a: TermId, b: TermId) -> Option<TermId>
 }
 
 /// The inverse of a term, widened.
+// zext (xor X, -1)
 pub fn widened_inverse(terms: &mut Terms, a: TermId, width: u32) -> Result<TermId, NoMemory>
     requires a { a.index < length terms.old }
     requires least { width_of (tree_in terms.old a) ≤ width }
@@ -130,6 +135,7 @@ pub fn widened_inverse(terms: &mut Terms, a: TermId, width: u32) -> Result<TermI
 }
 
 /// The choice between the two, widened.
+// select C, (zext X), (zext Y) --> zext (select C, X, Y)
 pub fn widened_choice(
     terms: &mut Terms,
     c: TermId,
@@ -154,6 +160,7 @@ pub fn widened_choice(
 }
 
 /// The choice between the second and the first, widened.
+// select C, (zext Y), (zext X) --> zext (select C, Y, X)
 pub fn widened_choice_turned(
     terms: &mut Terms,
     c: TermId,
@@ -178,6 +185,7 @@ pub fn widened_choice_turned(
 }
 
 /// The remainder of the two, widened.
+// urem (zext X), (zext Y) --> zext (urem X, Y)
 pub fn widened_remainder(terms: &mut Terms, pair: Shrunk, width: u32) -> Result<TermId, NoMemory>
     requires pair { IsPair terms.old pair }
     requires least { width_of (tree_in terms.old pair.first) ≤ width }
@@ -195,6 +203,7 @@ pub fn widened_remainder(terms: &mut Terms, pair: Shrunk, width: u32) -> Result<
 }
 
 /// The quotient of the two, widened.
+// udiv (zext X), C --> zext (udiv X, (trunc C))
 pub fn widened_quotient(terms: &mut Terms, pair: Shrunk, width: u32) -> Result<TermId, NoMemory>
     requires pair { IsPair terms.old pair }
     requires least { width_of (tree_in terms.old pair.first) ≤ width }
@@ -213,6 +222,7 @@ pub fn widened_quotient(terms: &mut Terms, pair: Shrunk, width: u32) -> Result<T
 }
 
 /// Whether the two are equal.
+// icmp eq (zext X), (zext Y) --> icmp eq X, Y
 pub fn are_equal(terms: &mut Terms, pair: Shrunk) -> Result<TermId, NoMemory>
     requires { IsPair terms.old pair }
     ensures made { IfOk result (λ id. Makes terms.new id 1 (λ v. digit (nat_eq (term_at v terms.old pair.first) (value_of v (form_tree terms.old pair.second))))) }
@@ -226,6 +236,8 @@ pub fn are_equal(terms: &mut Terms, pair: Shrunk) -> Result<TermId, NoMemory>
 }
 
 /// Whether the first is less.
+// icmp ult (zext X), (zext Y) --> icmp ult X, Y
+// icmp slt (zext X), (zext Y) --> icmp ult X, Y, if X is narrower than the zext
 pub fn is_less(terms: &mut Terms, pair: Shrunk) -> Result<TermId, NoMemory>
     requires { IsPair terms.old pair }
     ensures made { IfOk result (λ id. Makes terms.new id 1 (λ v. digit (nat_lt (term_at v terms.old pair.first) (value_of v (form_tree terms.old pair.second))))) }
@@ -239,6 +251,8 @@ pub fn is_less(terms: &mut Terms, pair: Shrunk) -> Result<TermId, NoMemory>
 }
 
 /// Whether the second is less.
+// icmp ult (zext Y), (zext X) --> icmp ult Y, X
+// icmp slt (zext Y), (zext X) --> icmp ult Y, X, if X is narrower than the zext
 pub fn is_greater(terms: &mut Terms, pair: Shrunk) -> Result<TermId, NoMemory>
     requires { IsPair terms.old pair }
     ensures made { IfOk result (λ id. Makes terms.new id 1 (λ v. digit (nat_lt (value_of v (form_tree terms.old pair.second)) (term_at v terms.old pair.first)))) }

@@ -25,6 +25,7 @@ pub struct SignedDivision {
 }
 
 /// Whether `size` plainly is the magnitude of `a`, chosen by `sign`.
+// select S, (sub 0, X), X
 fn has_magnitude(terms: &Terms, a: TermId, sign: TermId, size: TermId) -> bool
     requires a { a.index < length terms.now }
     requires sign { sign.index < length terms.now }
@@ -44,6 +45,7 @@ fn has_magnitude(terms: &Terms, a: TermId, sign: TermId, size: TermId) -> bool
 }
 
 /// The parts of the quotient of the two magnitudes, if `size` plainly is that.
+// udiv (select S, (sub 0, X), X), (select T, (sub 0, Y), Y)
 fn sizes_divided(
     terms: &Terms,
     size: TermId,
@@ -77,6 +79,7 @@ fn sizes_divided(
 }
 
 /// The parts of the quotient of two numbers with signs, if `q` plainly is that.
+// sdiv X, Y as select (xor S, T), (sub 0, Q), Q, where Q is udiv of the magnitudes
 fn quotient_by_signed(terms: &Terms, q: TermId, a: TermId, b: TermId) -> Option<SignedDivision>
     requires q { q.index < length terms.now }
     requires a { a.index < length terms.now }
@@ -109,6 +112,7 @@ fn quotient_by_signed(terms: &Terms, q: TermId, a: TermId, b: TermId) -> Option<
 }
 
 /// The parts of the quotient by a number without a sign, if `q` plainly is that.
+// sdiv X, Y as select S, (sub 0, Q), Q, where Q is udiv (select S, (sub 0, X), X), Y
 fn quotient_by_unsigned(terms: &Terms, q: TermId, a: TermId, b: TermId) -> Option<SignedDivision>
     requires q { q.index < length terms.now }
     requires a { a.index < length terms.now }
@@ -165,9 +169,11 @@ pub fn signed_multiple(terms: &Terms, a: TermId, b: TermId) -> Option<SignedDivi
     terms.values_fit();
     match term(terms, b) {
         Term::Binary(BinaryOp::Mul, left, right, _) => {
+            // sub X, (mul (sdiv X, Y), Y) --> srem X, Y
             if let Some(parts) = signed_quotient(terms, left, a, right) {
                 return Some(parts);
             }
+            // sub X, (mul Y, (sdiv X, Y)) --> srem X, Y
             if let Some(parts) = signed_quotient(terms, right, a, left) {
                 return Some(parts);
             }
@@ -178,6 +184,7 @@ pub fn signed_multiple(terms: &Terms, a: TermId, b: TermId) -> Option<SignedDivi
 }
 
 /// The remainder of the division, with the sign of the dividend.
+// srem X, Y as select S, (sub 0, R), R, where R is urem of the magnitudes
 pub fn signed_remainder(terms: &mut Terms, parts: SignedDivision) -> Result<TermId, NoMemory>
     requires sign { parts.sign.index < length terms.old }
     requires bit { width_of (tree_in terms.old parts.sign) ≡ 1 }

@@ -45,6 +45,7 @@ fn narrower(terms: &Terms, a: TermId, from: u32, width: u32) -> Option<BitRange>
     terms.values_fit();
     let _whole = terms.width(a);
     match term(terms, a) {
+        // trunc (lshr (trunc (lshr X, C1)), C2) --> trunc (lshr X, C1 + C2)
         Term::Extract {
             a: inner,
             from: below,
@@ -56,11 +57,14 @@ fn narrower(terms: &Terms, a: TermId, from: u32, width: u32) -> Option<BitRange>
                 from: below + from,
             })
         }
+        // bits of (concat X, Y) --> bits of Y, if all of them are in Y
         Term::Concat { low, below, .. } if from + width <= below => Some(BitRange { a: low, from }),
+        // bits of (concat X, Y) --> bits of X, if none of them is in Y
         Term::Concat { high, below, .. } if below <= from => Some(BitRange {
             a: high,
             from: from - below,
         }),
+        // trunc (lshr (zext X), C) --> trunc (lshr X, C), if the bits are all in X
         Term::Zext { a: inner, .. } if from + width <= terms.width(inner) => Some(BitRange {
             a: inner,
             from,
@@ -103,6 +107,7 @@ pub fn part(terms: &Terms, a: TermId, from: u32, width: u32) -> Form
 {
     let _whole = terms.width(a);
     let inner = innermost(terms, a, from, width);
+    // trunc (lshr X, C) --> 0, if X < 2^C
     if ends_below(terms, inner.a, inner.from) {
         Form::Built(Term::Constant { value: 0, width })
     } else {
@@ -121,6 +126,7 @@ pub fn widened(terms: &Terms, a: TermId, width: u32) -> Form
         return Form::Known(a);
     }
     match term(terms, a) {
+        // zext (zext X) --> zext X
         Term::Zext { a: inner, .. } => Form::Built(Term::Zext { a: inner, width }),
         _ => Form::Built(Term::Zext { a, width }),
     }
@@ -138,6 +144,7 @@ pub fn widened_signed(terms: &Terms, a: TermId, width: u32) -> Form
     if width == from {
         return Form::Known(a);
     }
+    // sext X --> zext X, if the sign bit of X is 0
     if has_no_sign(terms, a) {
         return widened(terms, a, width);
     }
@@ -166,6 +173,7 @@ fn adjacent(terms: &Terms, high: TermId, low: TermId) -> Option<Form>
             },
         ) if whole.index == same.index => {
             let _whole = terms.width(same);
+            // concat of bits [C2, C3) and bits [C1, C2) of X --> bits [C1, C3) of X
             if above == from + lower {
                 Some(bits(terms, whole, from, upper + lower))
             } else {
@@ -190,6 +198,7 @@ pub fn joined(terms: &Terms, high: TermId, low: TermId) -> Form
         return form;
     }
     match number(terms, high) {
+        // concat 0, X --> zext X
         Some(value) if value == 0 => Form::Built(Term::Zext { a: low, width }),
         _ => Form::Built(Term::Concat {
             high,

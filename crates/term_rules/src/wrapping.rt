@@ -4,8 +4,11 @@
 //! condition is true, the number of the quotient does not matter.
 
 ghost use Rattle.std.specs.Prelude.{◌≡◌, ◌⊎◌, ◌<◌, ◌≤◌, ◌*◌, ◌^◌, ℕ, IfOk, IfSome, IsTrue, false, length};
+ghost use Rattle.bv_terms.specs.declared.term.BinaryOp.TheVariants as op;
+ghost use Rattle.bv_terms.specs.Tree as tree;
 ghost use Rattle.bv_terms.specs.Tree.{quotient, remainder, shifted_right, width_of};
 ghost use Rattle.bv_terms.specs.Trees.{IsTerm, Keeps, bit_at, term_at, tree_in};
+ghost use Rattle.known_values.specs.Weight.{weight_of};
 ghost use Rattle.term_rules.specs.Wrapping.{AreEqualWhereFalse, IsExactFactor, IsExactShift, IsKept, IsPlain, IsRestWhere};
 
 use crate::builders::{constant, shl, udiv, urem};
@@ -59,6 +62,7 @@ pub struct Pair {
 }
 
 /// The two that are equal where the condition is false, if it is the negation of an equality.
+// xor (icmp eq X, Y), true
 fn unequal(terms: &Terms, p: TermId) -> Option<Pair>
     requires { p.index < length terms.now }
     ensures { IfSome result (AreEqualWhereFalse terms.now p) }
@@ -88,6 +92,7 @@ fn is_widened(terms: &Terms, a: TermId, inner: TermId) -> bool
 }
 
 /// Whether the term plainly is the product of the two at twice their width.
+// mul (zext X), (zext Y), at twice the width; also with the operands exchanged
 fn is_whole_product(terms: &Terms, m: TermId, x: TermId, y: TermId) -> bool
     requires m { m.index < length terms.now }
     requires x { x.index < length terms.now }
@@ -108,6 +113,7 @@ fn is_whole_product(terms: &Terms, m: TermId, x: TermId, y: TermId) -> bool
 }
 
 /// Whether the term plainly is the high half of the product of the two at twice their width.
+// trunc (lshr (mul (zext X), (zext Y)), width of X)
 fn is_high_half(terms: &Terms, h: TermId, x: TermId, y: TermId) -> bool
     requires h { h.index < length terms.now }
     requires x { x.index < length terms.now }
@@ -125,6 +131,7 @@ fn is_high_half(terms: &Terms, h: TermId, x: TermId, y: TermId) -> bool
 }
 
 /// Whether the condition says that the product of the two wraps.
+// mul nuw X, Y is poison: icmp ne (high half of mul (zext X), (zext Y)), 0
 fn says_product(terms: &Terms, p: TermId, x: TermId, y: TermId) -> bool
     requires p { p.index < length terms.now }
     requires x { x.index < length terms.now }
@@ -172,6 +179,7 @@ fn is_rest(terms: &Terms, rest: TermId, x: TermId, y: TermId) -> bool
 }
 
 /// Whether the condition says that a shift lost bits.
+// shl nuw X, Y is poison: icmp ne X, (lshr (shl X, Y), Y)
 fn says_shift(terms: &Terms, p: TermId, a: TermId, x: TermId, amount: TermId) -> bool
     requires p { p.index < length terms.now }
     requires a { a.index < length terms.now }
@@ -189,6 +197,7 @@ fn says_shift(terms: &Terms, p: TermId, a: TermId, x: TermId, amount: TermId) ->
 }
 
 /// Whether the condition says that the first, a sum of the other two, wraps.
+// add nuw X, Y is poison: icmp ult (add X, Y), X or icmp ult (add X, Y), Y
 fn says_sum(terms: &Terms, p: TermId, a: TermId, x: TermId, y: TermId) -> bool
     requires p { p.index < length terms.now }
     requires a { a.index < length terms.now }
@@ -205,6 +214,7 @@ fn says_sum(terms: &Terms, p: TermId, a: TermId, x: TermId, y: TermId) -> bool
 }
 
 /// Whether the condition says that the division leaves a remainder.
+// udiv exact X, Y is poison: icmp ne (urem X, Y), 0
 fn says_quotient(terms: &Terms, p: TermId, x: TermId, y: TermId) -> bool
     requires p { p.index < length terms.now }
     requires x { x.index < length terms.now }
@@ -367,12 +377,16 @@ pub fn udiv_where(
     ensures made { IfOk result (IsTerm terms.new (width_of (tree_in terms.old a))) }
     ensures says { IfOk result (λ id. (v : ℕ → ℕ → ℕ) → bit_at v terms.old poison ≡ false → 1 ≤ term_at v terms.old b
         → term_at v terms.new id ≡ quotient (width_of (tree_in terms.old a)) (term_at v terms.old a) (term_at v terms.old b)) }
+    ensures least { IfOk result (λ id. weight_of (tree_in terms.new id) ≤ weight_of (tree.Binary op.Udiv (tree_in terms.old a) (tree_in terms.old b) (width_of (tree_in terms.old a)))) }
     ensures kept { Keeps terms.old terms.new }
 {
     terms.values_fit();
+    // udiv (mul nuw X, Y), Y --> X
+    // udiv (mul nuw Y, X), Y --> X
     if let Some(factor) = cofactor(terms, poison, a, b) {
         return Ok(factor);
     }
+    // udiv (shl nuw X, Y), X --> shl 1, Y
     if let Some(by) = amount(terms, poison, a, b) {
         let width = terms.width(a);
         let one = constant(terms, 1, width)?;
@@ -396,14 +410,18 @@ pub fn urem_where(
     ensures made { IfOk result (IsTerm terms.new (width_of (tree_in terms.old a))) }
     ensures says { IfOk result (λ id. (v : ℕ → ℕ → ℕ) → bit_at v terms.old poison ≡ false
         → term_at v terms.new id ≡ remainder (term_at v terms.old a) (term_at v terms.old b)) }
+    ensures least { IfOk result (λ id. weight_of (tree_in terms.new id) ≤ weight_of (tree.Binary op.Urem (tree_in terms.old a) (tree_in terms.old b) (width_of (tree_in terms.old a)))) }
     ensures kept { Keeps terms.old terms.new }
 {
     terms.values_fit();
+    // urem (mul nuw X, Y), Y --> 0
+    // urem (shl nuw X, Y), X --> 0
     if is_multiple(terms, poison, a, b) {
         let width = terms.width(a);
         let id = constant(terms, 0, width)?;
         return Ok(id);
     }
+    // urem (add nuw (mul nuw X, Y), Z), Y --> urem Z, Y
     if let Some(rest) = beside_multiple(terms, poison, a, b) {
         let id = urem(terms, rest, b)?;
         return Ok(id);

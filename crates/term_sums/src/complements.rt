@@ -9,6 +9,7 @@ use crate::reading::term;
 use bv_terms::{BinaryOp, Term, TermId, Terms};
 
 /// Whether the first is plainly the second with each bit inverted.
+// xor X, -1 and X
 fn is_inverse(terms: &Terms, a: TermId, b: TermId) -> bool
     requires a { a.index < length terms.now }
     requires b { b.index < length terms.now }
@@ -32,6 +33,7 @@ pub fn are_inverse(terms: &Terms, a: TermId, b: TermId) -> bool
 }
 
 /// Whether an operand of the first, a conjunction, is plainly the inverse of the second.
+// and (and X, (xor Y, -1)), Y --> 0
 fn excludes(terms: &Terms, a: TermId, b: TermId) -> bool
     requires a { a.index < length terms.now }
     requires b { b.index < length terms.now }
@@ -51,6 +53,7 @@ fn excludes(terms: &Terms, a: TermId, b: TermId) -> bool
 }
 
 /// Whether the two plainly have no bit in common.
+// and X, (xor X, -1) --> 0
 pub fn are_apart(terms: &Terms, a: TermId, b: TermId) -> bool
     requires a { a.index < length terms.now }
     requires b { b.index < length terms.now }
@@ -68,6 +71,7 @@ pub fn are_apart(terms: &Terms, a: TermId, b: TermId) -> bool
 }
 
 /// Whether an operand of the first, a disjunction, is plainly the inverse of the second.
+// or (or X, (xor Y, -1)), Y --> -1
 fn completes(terms: &Terms, a: TermId, b: TermId) -> bool
     requires a { a.index < length terms.now }
     requires b { b.index < length terms.now }
@@ -87,6 +91,7 @@ fn completes(terms: &Terms, a: TermId, b: TermId) -> bool
 }
 
 /// Whether each bit plainly is 1 in either.
+// or X, (xor X, -1) --> -1
 pub fn are_whole(terms: &Terms, a: TermId, b: TermId) -> bool
     requires a { a.index < length terms.now }
     requires b { b.index < length terms.now }
@@ -105,6 +110,7 @@ pub fn are_whole(terms: &Terms, a: TermId, b: TermId) -> bool
 
 /// What is left of the second, a disjunction, in a conjunction with the first: the operand other
 /// than the first's inverse.
+// and X, (or (xor X, -1), Y) --> and X, Y
 pub fn left_of_or(terms: &Terms, a: TermId, b: TermId) -> Option<TermId>
     requires a { a.index < length terms.now }
     requires b { b.index < length terms.now }
@@ -128,6 +134,7 @@ pub fn left_of_or(terms: &Terms, a: TermId, b: TermId) -> Option<TermId>
 
 /// What is left of the second, a conjunction, in a disjunction with the first: the operand other
 /// than the first's inverse.
+// or X, (and (xor X, -1), Y) --> or X, Y
 pub fn left_of_and(terms: &Terms, a: TermId, b: TermId) -> Option<TermId>
     requires a { a.index < length terms.now }
     requires b { b.index < length terms.now }

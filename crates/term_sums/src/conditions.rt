@@ -29,6 +29,7 @@ struct Search {
 }
 
 /// The term and the number of an equality with a constant.
+// icmp eq X, C
 fn equated(terms: &Terms, a: TermId) -> Option<Equation>
     requires { a.index < length terms.now }
     ensures { IfSome result (IsEquation terms.now a) }
@@ -52,6 +53,7 @@ fn equated(terms: &Terms, a: TermId) -> Option<Equation>
 }
 
 /// Whether the two are equalities of one term with different numbers.
+// icmp eq X, C1 is true: icmp eq X, C2 --> false, if C1 != C2
 fn are_unequal(terms: &Terms, a: TermId, b: TermId) -> bool
     requires a { a.index < length terms.now }
     requires b { b.index < length terms.now }
@@ -91,6 +93,7 @@ fn known_from(terms: &Terms, fact: TermId, d: TermId) -> Option<bool>
     if fact.index == d.index {
         return Some(true);
     }
+    // X is true: xor X, true --> false
     if are_opposite(terms, fact, d) {
         return Some(false);
     }
@@ -119,6 +122,7 @@ fn known_by(terms: &Terms, c: TermId, d: TermId, fuel: u32) -> Search
         return Search { known, left };
     }
     match term(terms, c) {
+        // and X, Y is true: X --> true, Y --> true
         Term::Binary(BinaryOp::And, first, second, _) => {
             let found = known_by(terms, first, d, left);
             if found.known.is_some() {
@@ -179,9 +183,11 @@ pub fn known_where_false(terms: &Terms, c: TermId, d: TermId) -> Option<bool>
     requires d { d.index < length terms.now }
     ensures { IfSome result (λ known. (v : ℕ → ℕ → ℕ) → bit_at v terms.now c ≡ false → bit_at v terms.now d ≡ known) }
 {
+    // X is false: xor X, true --> true
     if are_opposite(terms, c, d) {
         return Some(true);
     }
+    // X is false: and X, Y --> false
     match known_by(terms, d, c, CONJUNCTS).known {
         Some(true) => Some(false),
         _ => None,

@@ -83,12 +83,14 @@ fn difference_by_cases(
     terms.values_fit();
     let width = terms.width(a);
     let sum = difference_as_sum(terms, facts, a, b)?;
+    // sub X, Y --> C, if their sums differ by C alone
     if let Some(by) = number_of(sum.as_slice()) {
         return Some(numbers::cut(by, width));
     }
     if cases == 0 {
         return None;
     }
+    // sub (select B, X, Y), Z --> C, if sub X, Z --> C and sub Y, Z --> C
     let condition = condition_in(terms, facts, sum.as_slice())?;
     let yes = with_fact(facts, condition, true)?;
     let first = difference_by_cases(terms, yes.as_slice(), a, b, cases - 1)?;

@@ -210,6 +210,7 @@ fn times_factor(product: &Product, factor: Factor) -> Option<Product>
 }
 
 /// Adds the product times a sum.
+// mul P, (add X, Y) --> add (mul P, X), (mul P, Y)
 fn put_sum(
     work: &mut ArrayVec<Product, PRODUCTS>,
     product: &Product,
@@ -228,6 +229,7 @@ fn put_sum(
 }
 
 /// Adds the product times a difference.
+// mul P, (sub X, Y) --> add (mul P, X), (mul P, (mul -1, Y))
 fn put_difference(
     work: &mut ArrayVec<Product, PRODUCTS>,
     product: &Product,
@@ -246,6 +248,7 @@ fn put_difference(
 }
 
 /// Adds the product times a product.
+// mul P, (mul X, Y) --> mul (mul P, X), Y
 fn put_product(
     work: &mut ArrayVec<Product, PRODUCTS>,
     product: &Product,
@@ -264,6 +267,7 @@ fn put_product(
 }
 
 /// Adds the product times a remainder.
+// urem X, Y --> sub X, (mul (udiv X, Y), Y)
 fn put_remainder(
     work: &mut ArrayVec<Product, PRODUCTS>,
     product: &Product,
@@ -283,6 +287,7 @@ fn put_remainder(
 }
 
 /// Adds the product times a term with each bit inverted.
+// xor X, -1 --> sub (mul -1, X), 1
 fn put_inverse(
     work: &mut ArrayVec<Product, PRODUCTS>,
     product: &Product,
@@ -318,6 +323,8 @@ fn put_factor(
 }
 
 /// Adds the product times a term shifted left.
+// shl X, C --> mul X, (shl 1, C)
+// shl X, Y --> mul X, (shl 1, Y)
 fn put_shifted(
     terms: &Terms,
     work: &mut ArrayVec<Product, PRODUCTS>,
@@ -374,6 +381,7 @@ fn put_expanded(
             width,
         ),
         Term::Zext { a: inner, .. } => put_factor(work, product, Factor::Term(inner), width),
+        // select C, X, Y --> X, if C is true; --> Y, if C is false
         Term::Ite { c, a: x, b: y, .. } => match known_by_facts(terms, facts, c) {
             Some(true) => put_same(work, product, x, width),
             Some(false) => put_same(work, product, y, width),

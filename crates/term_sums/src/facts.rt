@@ -69,16 +69,19 @@ fn known_within(terms: &Terms, facts: &[Fact], a: TermId, depth: u32) -> Option<
             let b = known_within(terms, facts, inner, depth - 1)?;
             Some(!b)
         }
+        // xor X, Y, if both are known
         Term::Binary(BinaryOp::Xor, x, y, width) if width == 1 => {
             let first = known_within(terms, facts, x, depth - 1)?;
             let second = known_within(terms, facts, y, depth - 1)?;
             Some(first != second)
         }
+        // and X, Y, if both are known
         Term::Binary(BinaryOp::And, x, y, width) if width == 1 => {
             let first = known_within(terms, facts, x, depth - 1)?;
             let second = known_within(terms, facts, y, depth - 1)?;
             Some(first && second)
         }
+        // or X, Y, if both are known
         Term::Binary(BinaryOp::Or, x, y, width) if width == 1 => {
             let first = known_within(terms, facts, x, depth - 1)?;
             let second = known_within(terms, facts, y, depth - 1)?;
@@ -88,7 +91,8 @@ fn known_within(terms: &Terms, facts: &[Fact], a: TermId, depth: u32) -> Option<
     }
 }
 
-/// A condition on which this one rests and which is not known.
+/// A condition that this one is made of by negations, `xor`, `and` and `or`. Of two operands the
+/// second is taken where the first is one of the facts; the condition itself may be one of them.
 pub fn unknown_part(terms: &Terms, facts: &[Fact], a: TermId) -> Option<TermId>
     requires { a.index < length terms.now }
     ensures { IfSome result (λ c. c.index < length terms.now) }

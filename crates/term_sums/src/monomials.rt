@@ -130,6 +130,7 @@ pub fn add(sum: &mut ArrayVec<Monomial, MONOMIALS>, monomial: Monomial, width: u
 {
     match position(sum.as_slice(), monomial.factors.as_slice()) {
         Some(index) => {
+            // add (mul X, C1), (mul X, C2) --> mul X, (C1 + C2)
             let other = sum.remove(index);
             let coefficient = numbers::sum(other.coefficient, monomial.coefficient, width);
             let factors = monomial.factors;

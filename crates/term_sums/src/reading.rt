@@ -42,6 +42,7 @@ pub fn numbers(terms: &Terms, a: TermId, b: TermId) -> Option<(u128, u128)>
 
 /// Whether the operands of a commutative operation are in order: constants last, and else by their
 /// ids.
+// add C, X --> add X, C
 pub fn are_in_order(terms: &Terms, a: TermId, b: TermId) -> bool
     requires a { a.index < length terms.now }
     requires b { b.index < length terms.now }

@@ -137,11 +137,3 @@ pub fn is_answered<R: AllocGlobal + Threads + Sync>(rt: &R, asked: &Asked) -> Re
         Err(Fail::new(format_args!("{}: status {status} for\n{}", asked.line, asked.source)))
     }
 }
-
-/// Fails at the first row to which `run` gives another answer. `=== ` separates two rows.
-pub fn are_answered<R: AllocGlobal + Threads + Sync>(rt: &R, rows: &str) -> Result<(), Fail> {
-    for row in rows.split("=== ") {
-        is_answered(rt, &asked_in(row).ok_or("a row")?)?;
-    }
-    Ok(())
-}

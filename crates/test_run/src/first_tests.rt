@@ -1,6 +1,6 @@
 //! Reports that end at their first incorrect row, for each number of workers.
 
-use crate::asking::{Asked, are_answered, is_answered, run_with, shelf_of, written};
+use crate::asking::{Asked, is_answered, run_with, shelf_of, written};
 use crate::pairs::pair_in;
 use ir_reader::read;
 use pair_driver::{Gate, Judge, Judged, OpenGate, drive_first};
@@ -52,75 +52,6 @@ fn the_first_incorrect_row_is_the_last(rt: HostRuntime) -> Result<(), Fail> {
     is_first(&rt, "tv check --first --workers 1 A B")?;
     is_first(&rt, "tv check --workers 2 A B --first")?;
     is_first(&rt, "tv check A --first B --workers 64")
-}
-
-/// What a report has where no row ends it, and where rows that are not judged come first.
-const ROWS: &str = "\
-without an incorrect row each function has its row
-tv check --first A B
---- A
-define i8 @f() {
-  ret i8 7
-}
-define i8 @g() {
-  ret i8 7
-}
---- B
-define i8 @g() {
-  ret i8 7
-}
-define i8 @h() {
-  ret i8 7
-}
---- 3
-tv 2 turns 4 blocks 2 bytes 8 rounds 64 conflicts 0 weight 100000 first
-@f missing
-@g correct
-@h extra
-correct 1 incorrect 0 unknown 0 refused 0 signature 0 missing 1 extra 1
-=== no function at all
-tv check --first A B
---- A
-; no function
---- B
-; no function
---- 0
-tv 2 turns 4 blocks 2 bytes 8 rounds 64 conflicts 0 weight 100000 first
-correct 0 incorrect 0 unknown 0 refused 0 signature 0 missing 0 extra 0
-=== a row that ends no report comes before one that does
-tv check --first A B
---- A
-define i8 @f() {
-  ret i8 7
-}
-define i8 @g() {
-  ret i8 7
-}
-define i8 @h() {
-  ret i8 7
-}
---- B
-define i8 @g() {
-  ret i8 6
-}
-define i8 @h() {
-  ret i8 6
-}
-define i8 @e() {
-  ret i8 6
-}
---- 1
-tv 2 turns 4 blocks 2 bytes 8 rounds 64 conflicts 0 weight 100000 first
-@f missing
-@g incorrect
-  source returns 7
-  target returns 6
-correct 0 incorrect 1 unknown 0 refused 0 signature 0 missing 1 extra 0
-";
-
-#[test]
-fn rows_that_end_no_report_go_on(rt: HostRuntime) -> Result<(), Fail> {
-    are_answered(&rt, ROWS)
 }
 
 /// A gate that adds up the numbers of the pairs that passed, counted from 1.

@@ -2,11 +2,11 @@
 //!
 //! [`both_verdicts`] asks the judge by questions and the judge by counting. It promises that each
 //! answers its own definition's verdict, and the tests compare them. Others call `settle`, `replay`
-//! and the printing of reports, and claim numbers from two threads. Tables of command lines,
-//! modules and reports that were worked out outside go through `tv_run::run`, and traces through
-//! `trace_run::run`; the readers of
-//! command lines (`tv_cli`), the files and sinks of `tv_io` and the reader and writer of proof files
-//! (`proof_text`) have their own. No crate uses this one.
+//! and the printing of reports, and claim numbers from two threads. What the program answers where
+//! workers, sinks and files are of a kind of their own is asked of `tv_run::run`, and traces of
+//! `trace_run::run`; the readers of command lines (`tv_cli`), the files and sinks of `tv_io` and the
+//! reader and writer of proof files (`proof_text`) have their own. Whole runs of the program over two
+//! files are rows of `tools/testdata/rows`, which `tools/test` tries. No crate uses this one.
 #![tactic(auto)]
 
 #[cfg(test)]
@@ -14,15 +14,11 @@ mod asking;
 #[cfg(test)]
 mod both;
 #[cfg(test)]
-mod choice_tests;
-#[cfg(test)]
 mod cli_tests;
 #[cfg(test)]
 mod cut_tests;
 #[cfg(test)]
 mod first_tests;
-#[cfg(test)]
-mod flow_tests;
 #[cfg(test)]
 mod in_memory_tests;
 #[cfg(test)]
@@ -34,21 +30,13 @@ mod log_tests;
 #[cfg(test)]
 mod make_tests;
 #[cfg(test)]
-mod memory_tests;
-#[cfg(test)]
-mod module_tests;
-#[cfg(test)]
 mod outside_tests;
-#[cfg(test)]
-mod pair_tests;
 #[cfg(test)]
 mod pairs;
 #[cfg(test)]
 mod proof_tests;
 #[cfg(test)]
 mod put_tests;
-#[cfg(test)]
-mod refusal_tests;
 #[cfg(test)]
 mod report_tests;
 #[cfg(test)]
@@ -57,7 +45,5 @@ mod slot_tests;
 mod trace_tests;
 #[cfg(test)]
 mod verdict_tests;
-#[cfg(test)]
-mod wide_tests;
 #[cfg(test)]
 mod worker_tests;

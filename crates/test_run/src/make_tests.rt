@@ -1,47 +1,8 @@
 //! The command `make`: a pair of modules from a seed, judged.
 
-use crate::asking::{are_answered, shelf_of, written, written_until};
+use crate::asking::{shelf_of, written, written_until};
 use std::test::*;
 use std::thread::Threads;
-
-/// Reports of pairs that were made and judged outside.
-const ROWS: &str = "\
-two functions of two instructions
-tv make --seed 1 --functions 2 --insts 2
---- A
---- B
---- 1
-tv 2 turns 4 blocks 2 bytes 8 rounds 64 conflicts 0 weight 100000
-make seed 1 functions 2 insts 2
-correct 1 incorrect 1 unknown 0 refused 0 signature 0 missing 0 extra 0
-=== the usual sizes
-tv make
---- A
---- B
---- 1
-tv 2 turns 4 blocks 2 bytes 8 rounds 64 conflicts 0 weight 100000
-make seed 1 functions 16 insts 8
-correct 15 incorrect 1 unknown 0 refused 0 signature 0 missing 0 extra 0
-=== a weight that is too large
-tv make --functions 1 --insts 1 --turns 0 --weight 17
---- A
---- B
---- 2
-tv 2 turns 0 blocks 2 bytes 8 rounds 64 conflicts 0 weight 17
-make seed 1 functions 1 insts 1
-correct 0 incorrect 0 unknown 1 refused 0 signature 0 missing 0 extra 0
-=== no file is looked at
-tv make --functions 1 --insts 64 A
---- A
---- B
---- 4
-words refused
-";
-
-#[test]
-fn pairs_are_made_and_judged(rt: HostRuntime) -> Result<(), Fail> {
-    are_answered(&rt, ROWS)
-}
 
 /// What a command line writes.
 fn made<R: AllocGlobal + Threads + Sync>(rt: &R, line: &str) -> Result<Vec<u8>, Fail> {

@@ -116,8 +116,8 @@ define i8 @t(i8 %x) {
   %r = sdiv i8 %x, -1
   ret i8 %r
 }
-=== each argument but one takes a tape
-0 15 100000: correct
+=== no argument takes a tape: the choice is minus it
+0 0 100000: correct
 define i4 @s(i4 %x) {
   %a = freeze i4 poison
   %r = add i4 %x, %a
@@ -126,11 +126,23 @@ define i4 @s(i4 %x) {
 define i4 @t(i4 %x) {
   ret i4 0
 }
-=== one round too few
-0 14 100000: unknown rounds
+=== twelve arguments take a tape each where the choice has a factor
+0 12 100000: correct
 define i4 @s(i4 %x) {
   %a = freeze i4 poison
-  %r = add i4 %x, %a
+  %b = mul i4 %a, 3
+  %r = add i4 %x, %b
+  ret i4 %r
+}
+define i4 @t(i4 %x) {
+  ret i4 0
+}
+=== one round too few
+0 11 100000: unknown rounds
+define i4 @s(i4 %x) {
+  %a = freeze i4 poison
+  %b = mul i4 %a, 3
+  %r = add i4 %x, %b
   ret i4 %r
 }
 define i4 @t(i4 %x) {

@@ -169,7 +169,8 @@ fn terms_have_values(rt: HostRuntime) -> Result<(), Fail> {
 /// number, is it, operands that change places are one term, operations on numbers are computed, a
 /// common factor is multiplied once, low bits come from low bits, operations on widened numbers are
 /// done before widening, terms whose sums of products are the same are equal, also by cases of a
-/// condition and as operands, and a remainder is below its divisor.
+/// condition and as operands, and a remainder is below its divisor. What is added to a term and taken
+/// away again is not there, also where only low bits of it are taken between.
 const SAME: &str = "\
 xx& x
 xx| x
@@ -191,6 +192,11 @@ x7l 0
 xy<xx? x
 xy+y- x
 xy-y+ x
+xy+x- y
+xyx-+ y
+ysxz+tx- y
+xysxz-t+ y
+ysxz^tx^ y
 xxy|& x
 xy&y| y
 xy^x^ y

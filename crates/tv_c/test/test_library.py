@@ -5,8 +5,9 @@ where that is installed.
     crates/tv_c/test/test_library.py [-v]
 
 Needs cc, the kit's rt on the PATH, and the library, crates/tv_c/out/libtv_c.a, which `rt lib` in crates/tv_c
-builds. Where something isn't there, a line says so and the tests are skipped. The last line counts; the
-status is 1 where a case failed.
+builds. The variable TV_C_LIBRARY names another one, as that of tools/quick. Where something isn't there, a
+line says so and the tests are skipped. The last line counts; the status is 1 where a case failed, or where
+there is no file of the name that TV_C_LIBRARY gives.
 """
 import os
 import shutil
@@ -16,7 +17,8 @@ import tempfile
 
 HERE = os.path.dirname(os.path.realpath(__file__))
 CRATE = os.path.dirname(HERE)
-LIBRARY = os.path.join(CRATE, "out", "libtv_c.a")
+NAMED = os.environ.get("TV_C_LIBRARY")
+LIBRARY = os.path.abspath(NAMED or os.path.join(CRATE, "out", "libtv_c.a"))
 FLAGS = ["-std=c99", "-O1", "-g", "-Wall", "-Wextra", "-Werror", "-pthread"]
 VALGRIND = ["valgrind", "-q", "--leak-check=full", "--show-leak-kinds=all", "--error-exitcode=99"]
 WRAPPED = ["-Wl,--wrap=malloc,--wrap=realloc"]
@@ -80,6 +82,9 @@ def wrong_with(source, more, before, folder):
 
 
 def main():
+    if NAMED and not os.path.exists(LIBRARY):
+        print(f"FAILED: TV_C_LIBRARY={NAMED}: no such file")
+        return 1
     why = missing()
     if why:
         print(f"skipped: {TESTS} tests of the C library: {why}")

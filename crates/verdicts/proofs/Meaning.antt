@@ -13,7 +13,7 @@ use Rattle.points.specs.Refines.{is_refined}
 use Rattle.points.specs.Code.{WordsFit, number_of}
 use Rattle.points.specs.Run.{Run, run_of}
 use Rattle.points.specs.Tapes.{need_of, widest_choice, plain_form, HasPlainForm}
-use Rattle.verdicts.specs.Covers.{covers, some_covers, is_covered, shifted, HasNoCover}
+use Rattle.verdicts.specs.Covers.{covers, some_covers, is_covered, tried, HasNoCover}
 use Rattle.verdicts.specs.Trail.{IsPoint, IsLeastUncovered, AreAllCovered, TrailFrom, Ends}
 use Rattle.verdicts.specs.Laws.{IsWithin, LeastCoversArePlain}
 use Rattle.points.proofs.Order.{number_of-same}
@@ -47,7 +47,7 @@ covering_tape pair bounds p (tape ∷ tapes) h =
     ]
 
 pub covered_is_allowed : (pair : RunPair) (bounds : Bounds) (tapes : List (List ℕ)) (p : Point) → is_covered pair bounds tapes p ≡ true → IsCovered pair bounds p.input p.tape
-covered_is_allowed pair bounds tapes p h = covering_tape pair bounds p (shifted (need_of bounds.turns pair.source) p.tape ++ tapes) h
+covered_is_allowed pair bounds tapes p h = covering_tape pair bounds p (tried pair bounds p ++ tapes) h
 
 -- the plain form of the target's tape is a point
 pub plain_point : (pair : Functions) (bounds : Bounds) (input : Input) (tape : List ℕ) → IsWithin pair bounds input → HasPlainForm (lowered pair.target) bounds input tape

@@ -34,7 +34,7 @@ AreAllCovered pair bounds tapes = (q : Point) → IsPoint pair bounds q → is_c
 
 -- ---- the trail
 
--- each point is the least that neither a shift nor an earlier tape covers, and each tape the least that covers its point; `before` are the tapes that were there when it began
+-- each point is the least that neither a candidate nor an earlier tape covers, and each tape the least that covers its point; `before` are the tapes that were there when it began
 abbrev pub TrailFrom : RunPair → Bounds → List (List ℕ) → List (List ℕ) → List Point → Type 0
 TrailFrom pair bounds before [] [] = Unit {0}
 TrailFrom pair bounds before [] (p ∷ []) = IsLeastUncovered pair bounds before p

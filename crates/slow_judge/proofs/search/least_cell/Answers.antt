@@ -1,4 +1,5 @@
 use Rattle.slow_judge.proofs.Common.{false, refl, arith, IsTrue, IsCell, IsUncovered}
+use Rattle.points.proofs.Args.{ArgsFit-length}
 use Rattle.slow_judge.proofs.Order.{cell_fits, within_places}
 use Rattle.slow_judge.proofs.Searching.{reached_first, reached_is_least, reached_next, reached_last}
 use Rattle.slow_judge.proofs.search.least_cell.Goals as goal
@@ -8,6 +9,9 @@ loop-point-init c = record {
   reached = reached_first (IsCell c.args.pair.now c.args.bounds.now) c.args.pair.now c.args.bounds.now c.args.tapes.now c.in_ok-point.point c.in_ok-point.ensures.cell c.in_ok-point.ensures.place;
   ready = c.requires.ready;
 }
+
+pub is_uncovered-requires-clause-args : goal.is_uncovered-requires-clause-args
+is_uncovered-requires-clause-args c = ArgsFit-length _ c.args.pair.now.target.parameters c.loop-point.point.input.args c.loop-point.invariant.reached.among.args
 
 pub returns-then-branch-clause-found : goal.returns-then-branch-clause-found
 returns-then-branch-clause-found c = reached_is_least (IsCell c.args.pair.now c.args.bounds.now) c.args.pair.now c.args.bounds.now c.args.tapes.now c.loop-point.point c.loop-point.invariant.reached (c.in_ok-is_uncovered.ensures.value.0 c.if-branch.true)

@@ -1,4 +1,5 @@
 use Rattle.slow_judge.proofs.Common.{false, refl, arith, IsTrue, IsOfShape, IsUncovered}
+use Rattle.points.proofs.Args.{ArgsFit-length}
 use Rattle.slow_judge.proofs.Order.{cell_fits, within_places}
 use Rattle.slow_judge.proofs.Searching.{reached_first, reached_is_least, reached_next, reached_last}
 use Rattle.slow_judge.proofs.Shapes.{shape_fits, fits_shape, next_is, last_is, all_covered, least_of_points}
@@ -13,6 +14,11 @@ loop-point-init c =
       reached = reached_first (IsOfShape c.in_ok-shape.shape) pair bounds c.args.tapes.now p (fits_shape pair bounds c.in_ok-shape.shape p c.in_ok-shape.ensures (cell_fits pair bounds p c.in_ok-point.ensures.cell)) c.in_ok-point.ensures.place;
       ready = c.requires.ready;
     }
+
+pub is_uncovered-requires-clause-args : goal.is_uncovered-requires-clause-args
+is_uncovered-requires-clause-args c =
+    let fits = shape_fits c.args.pair.now c.args.bounds.now c.in_ok-shape.shape c.in_ok-shape.ensures c.loop-point.point c.loop-point.invariant.reached.among in
+    ArgsFit-length _ c.args.pair.now.target.parameters c.loop-point.point.input.args fits.args
 
 pub returns-then-branch-clause-found : goal.returns-then-branch-clause-found
 returns-then-branch-clause-found c =

@@ -16,6 +16,6 @@ returns c =
     let room : length tapes < c.args.budget.now.rounds = omega (arith, c.requires.trail.within) in
     let grown = grown_more s.pair.now s.bounds.now c.args.budget.now tapes c.exclude.new.self.tapes c.args.self.now.points.items c.push.new.self.items c.args.point c.args.tape
     (grown_of s c.args.budget.now c.args.self.now c.requires.trail) c.requires.least c.requires.cover room c.in_ok-exclude.ensures.more c.in_ok-push.ensures.items in (
-      record { count = grown.count; trail = grown.trail; within = grown.within; question = c.in_ok-exclude.ensures.question },
+      record { count = grown.count; trail = grown.trail; within = grown.within; question = c.in_ok-exclude.ensures.question; limit = c.exclude.ensures.limit ∙ c.requires.trail.limit },
       ap length c.in_ok-exclude.ensures.more ∙ length-append tapes (c.args.tape ∷ []),
     )

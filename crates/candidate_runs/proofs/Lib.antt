@@ -1,0 +1,4 @@
+mod Common
+pub mod Covering
+pub mod Tried
+mod Listed
