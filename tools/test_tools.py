@@ -127,6 +127,9 @@ def quick_without_rt(bench):
         done = bench.run("quick", *args, PATH=there)
         equal((done.returncode, done.stdout), (4, ""), f"status of {args}")
         has(done.stderr, "quick: ", "tools/quick [OUT]")
+    done = bench.run("quick", "bin", PATH=there)
+    equal((done.returncode, done.stdout), (4, ""), "status of a folder")
+    has(done.stderr, "quick: bin is a folder: name the file of the program\n")
     equal(sorted(os.listdir(bench.folder)), ["bin"], "files")
 
 
