@@ -10,6 +10,7 @@
 #ifndef TV_LLVM_LOWERING_H
 #define TV_LLVM_LOWERING_H
 
+#include "RulesCalls.h"
 #include "llvm/ADT/SetVector.h"
 #include "llvm/ADT/StringRef.h"
 #include "llvm/IR/PassManager.h"
@@ -63,10 +64,25 @@ Globals globalsOf(const llvm::Function &F);
 /// type or initial value on the other side.
 std::optional<Global> globalOf(const Globals &Source, const Globals &Target);
 
-/// Writes a function out, in a module of which it is the only one, with this
-/// variable as its last parameter. The function may be replaced by another one.
-Lowered lowerFunction(llvm::Function *&F,
-                      const std::optional<Global> &Variable);
+/// What both functions of a pair have to be written out with.
+struct Together {
+  /// The variable that becomes a parameter.
+  std::optional<Global> Variable;
+  /// How calls are written out.
+  std::optional<CallPlan> Plan;
+
+  bool operator==(const Together &Other) const {
+    return Variable == Other.Variable && Plan == Other.Plan;
+  }
+};
+
+/// Writes a function with these calls out, in a module of which it is the only
+/// one. The function may be replaced by another one.
+Lowered lowerFunction(llvm::Function *&F, const Calls &Made,
+                      const Together &Both);
+
+/// Whether calls are written out: -tv-no-calls says no.
+bool writesCalls();
 
 /// The promises that are missing on the source's side, where they can make an
 /// `incorrect` a false alarm, and those on the target's, where they can make a
