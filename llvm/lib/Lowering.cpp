@@ -99,6 +99,11 @@ static cl::opt<std::string>
     PairOpt("tv-pair", cl::value_desc("file"),
             cl::desc("The other module of a pair, for the pass tv-lower"));
 
+static cl::opt<std::string> SideOpt(
+    "tv-side", cl::value_desc("side"),
+    cl::desc("Which side of -tv-pair this is: source, target, or names where "
+             "those that begin with tgt are targets"));
+
 static cl::opt<bool>
     NoCallsOpt("tv-no-calls",
                cl::desc("Leave calls to functions as they are, so that tv "
@@ -132,19 +137,25 @@ struct Paired {
 
 } // namespace
 
-/// Which of the two modules is the source isn't said: what asks for one side
-/// is asked of both.
+/// Whether a function may be a source, and whether it may be a target. What asks
+/// for one side is asked of both where it isn't said which this is.
+static std::pair<bool, bool> sidesOf(StringRef Name) {
+  if (SideOpt == "names")
+    return {!Name.starts_with("tgt"), Name.starts_with("tgt")};
+  return {SideOpt != "target", SideOpt != "source"};
+}
+
 static void addPlan(Paired &One, const Function &Second) {
   if (!tv::writesCalls())
     return;
   One.Made = tv::callsOf(*One.F);
   tv::Calls Others = tv::callsOf(Second);
   bool HasVariable = One.Both.Variable.has_value();
-  One.Both.Plan = tv::planOf(One.Made, Others, HasVariable);
-  std::optional<tv::CallPlan> Back =
-      tv::planOf(Others, One.Made, HasVariable);
-  if (One.Both.Plan && One.Both.Plan->Refused.empty())
-    One.Both.Plan->Refused = Back->Refused;
+  auto [IsSource, IsTarget] = sidesOf(One.F->getName());
+  if (IsTarget)
+    One.Both.Plan = tv::planOf(Others, One.Made, HasVariable);
+  if (IsSource && !(One.Both.Plan && !One.Both.Plan->Refused.empty()))
+    One.Both.Plan = tv::planOf(One.Made, Others, HasVariable);
   One.Alarms = tv::callAlarms(One.Made, Others);
 }
 

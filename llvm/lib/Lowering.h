@@ -95,8 +95,9 @@ std::vector<std::string> hiddenFaults(const Lowered &Source,
 /// The pass tv-lower: writes each function of a module out, and notes rules
 /// and promises in its attributes "tv-rules", "tv-dropped", "tv-compared" and
 /// "tv-unused".
-/// -tv-pair=FILE names the other module of a pair; without it no variable
-/// becomes a parameter.
+/// -tv-pair=FILE names the other module of a pair, -tv-side which of the two
+/// this one is; without it no variable becomes a parameter, and no call is
+/// written out.
 class LowerPass : public llvm::PassInfoMixin<LowerPass> {
 public:
   llvm::PreservedAnalyses run(llvm::Module &M, llvm::ModuleAnalysisManager &);

@@ -415,12 +415,16 @@ define i8 @tgt.behind_no_return(i8 %x) {
 }
 
 ; correct by calls
-define i8 @src.behind_sure(i8 %x) {
-  %a = call i8 @sure(i8 %x)
+define i8 @src.behind_sure(i1 %c) {
+  br i1 %c, label %yes, label %no
+yes:
+  %a = call i8 @sure(i8 0)
   unreachable
+no:
+  ret i8 0
 }
-define i8 @tgt.behind_sure(i8 %x) {
-  unreachable
+define i8 @tgt.behind_sure(i1 %c) {
+  ret i8 0
 }
 
 ; correct by calls
@@ -911,11 +915,11 @@ define void @tgt.assembly() {
 }
 
 ; refused source Unsupported call @tv.refuses.call-type by refuse
-define void @src.floats(float %x) {
-  %a = call float @floats(float %x)
+define void @src.floats() {
+  %a = call float @floats(float 1.0)
   ret void
 }
-define void @tgt.floats(float %x) {
+define void @tgt.floats() {
   ret void
 }
 
@@ -970,7 +974,7 @@ define i8 @tgt.tail_with_alloca(i8 %x) {
   ret i8 %x
 }
 
-; refused source Unsupported call @tv.refuses.invoke by refuse
+; refused source Unsupported personality by refuse
 define void @src.invoked() personality ptr @personal {
   invoke void @plain() to label %out unwind label %pad
 out:
@@ -994,7 +998,7 @@ define void @src.five() {
   ret void
 }
 define void @tgt.five() {
-  call void @plain()
+  call void @other()
   call void @plain()
   call void @plain()
   call void @plain()
