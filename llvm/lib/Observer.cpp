@@ -11,6 +11,7 @@
 //===----------------------------------------------------------------------===//
 
 #include "Observer.h"
+#include "CallLines.h"
 #include "OneFunction.h"
 #include "llvm/ADT/StringExtras.h"
 #include "llvm/Analysis/LazyCallGraph.h"
@@ -167,9 +168,11 @@ tv::Answer tv::Observer::judge(Seen &Source, Seen &Target) {
   unsigned At = Source.Parameters;
   if (Both.Variable)
     rename(Row.Lines, At++, "@" + Both.Variable->Name);
-  if (Both.Plan && Both.Plan->Refused.empty())
-    for (const std::string &Name : Both.Plan->parameters())
-      rename(Row.Lines, At++, "%" + Name);
+  if (!Both.Plan || !Both.Plan->Refused.empty())
+    return Row;
+  for (const std::string &Name : Both.Plan->parameters())
+    rename(Row.Lines, At++, "%" + Name);
+  nameCalls(Row.Lines, *Both.Plan, Source.Made, Target.Made);
   return Row;
 }
 

@@ -97,6 +97,10 @@ static bool isLocal(const Value *Pointer) {
 /// Whether an instruction accesses memory from outside. What else may do so is
 /// refused by tv.
 static bool accessesOutside(const Instruction &I) {
+  // What a loaded pointer promises is written out as an access through it.
+  if (I.hasMetadata(LLVMContext::MD_dereferenceable) ||
+      I.hasMetadata(LLVMContext::MD_dereferenceable_or_null))
+    return true;
   if (const Value *Pointer = getLoadStorePointerOperand(&I))
     return !isLocal(Pointer);
   if (const auto *Fill = dyn_cast<AnyMemIntrinsic>(&I))
