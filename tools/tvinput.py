@@ -231,15 +231,16 @@ def attempted(path, other, make, among_others=True):
         return Pair(path, other, fault=str(failure).removeprefix(f"{path}: "))
 
 
-def written_out(module, other):
+def written_out(module, other, side="names"):
     """The text (bytes) of the module with each function written out in what tv reads, by the
     plugin's pass tv-lower. `other` is the text of the other module of the pair: a global variable
-    becomes a parameter where both functions of a name can have it."""
+    becomes a parameter where both functions of a name can have it, and calls are written out alike.
+    `side` says which of the two this one is, or that the functions' names say it."""
     with tempfile.NamedTemporaryFile(suffix=".ll") as file:
         file.write(other.encode("utf-8", "surrogateescape"))
         file.flush()
         done = tvlib.run([tvlib.opt_program(), f"-load-pass-plugin={tvlib.plugin()}", "-S",
-                          f"-tv-pair={file.name}", "-passes=tv-lower", "-o", "-", "-"],
+                          f"-tv-pair={file.name}", f"-tv-side={side}", "-passes=tv-lower", "-o", "-", "-"],
                          module.text.encode("utf-8", "surrogateescape"), OPT_SECONDS)
     if done.status != 0:
         raise Failure(UNREADABLE, f"{module.path}: {last_line(done.errors) or 'opt failed'}")
@@ -259,7 +260,8 @@ def pair_of(path, other, texts, lower=False):
     names = tvir.names_of(source, target)
     if lower:
         needs_split()
-        texts = [written_out(source, target.text), written_out(target, source.text)]
+        texts = [written_out(source, target.text, "source"),
+                 written_out(target, source.text, "target")]
         source, target = modules_of(texts, [path, other])
         source.raw, target.raw = raw
         source.given = target.given = ""

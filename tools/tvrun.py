@@ -42,6 +42,8 @@ NO_BOUND = "no bound"
 LARGER = {"weight": [1_000_000], "rounds": [640, 4096]}
 # Promises of the caller: what a function does can't break them.
 OF_CALLER = re.compile(r"@[^:]*$|arg\d+:(align\(|dereferenceable|writable$|sret$)")
+# A promise of a callee: equal calls have equal ones, so the source breaks it where the target does.
+OF_CALLEE = re.compile(r"call:|quiet:")
 
 
 @dataclasses.dataclass
@@ -314,8 +316,8 @@ def doubts_of(source, target, name, kind):
     """The promises that tv wasn't told of and that make a row doubtful, without what follows their
     `~`. One that is missing in the source may make `incorrect` a false alarm, but for a caller's of
     a parameter that neither function uses. One that is missing in the target may make `correct` hide
-    a fault, but for a caller's, one of a variable, or one with a `~`, that the source has too; so
-    may a store, or a word of a header, that one of the two functions has alone."""
+    a fault, but for a callee's, and a caller's, one of a variable, or one with a `~`, that the source
+    has too; so may a store, or a word of a header, that one of the two functions has alone."""
     found = []
     if kind == "incorrect":
         unused = set(source.noted(name, "tv-unused")) & set(target.noted(name, "tv-unused"))
@@ -324,7 +326,8 @@ def doubts_of(source, target, name, kind):
     elif kind in MARKS:
         shared = set(source.noted(name, "tv-dropped"))
         found = [each for each in target.noted(name, "tv-dropped")
-                 if each not in shared or not OF_CALLER.match(each) and "~" not in each]
+                 if not OF_CALLEE.match(each)
+                 and (each not in shared or not OF_CALLER.match(each) and "~" not in each)]
         found += only_one_has(set(source.noted(name, "tv-compared")),
                               set(target.noted(name, "tv-compared")))
     return sorted({each.split("~")[0] for each in found})

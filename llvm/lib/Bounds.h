@@ -20,6 +20,8 @@ struct Needs {
   bool GoesBack = true;
   /// Whether a pointer may come from outside.
   bool TakesPointers = true;
+  /// The most calls of a run, where calls are written out.
+  unsigned Calls = 0;
 };
 
 /// The number of pointers from outside through which a function reads or

@@ -92,11 +92,15 @@ std::optional<uint64_t> tv::Checker::given(StringRef Name) const {
 tv::Limits tv::Checker::boundsOf(const Side &Source, const Side &Target) const {
   uint64_t Blocks = std::max(Source.Memory.Blocks, Target.Memory.Blocks);
   uint64_t Bytes = std::max(Source.Memory.Bytes, Target.Memory.Bytes);
+  bool GoesBack = Source.Memory.GoesBack || Target.Memory.GoesBack;
+  bool HasCalls = Source.Memory.Calls || Target.Memory.Calls;
   Limits Chosen;
   for (const auto &[Name, Tvs] : Usual) {
     uint64_t Number = Name == "blocks"  ? (Blocks ? Blocks : Tvs)
                       : Name == "bytes" ? std::max(Bytes, Tvs)
-                                        : Tvs;
+                      // The same meaning for less weight.
+                      : HasCalls && !GoesBack ? 0
+                                              : Tvs;
     if (Number != Tvs && !given(Name))
       Chosen.emplace_back(Name, Number);
   }
@@ -116,6 +120,8 @@ tv::Limits tv::Checker::restedOn(const Side &Source, const Side &Target,
     if (Name == "turns" ? GoesBack : TakesPointers)
       Rested.emplace_back(
           Name, numberOf(Name, Asked).value_or(given(Name).value_or(Tvs)));
+  if (uint64_t Calls = std::max(Source.Memory.Calls, Target.Memory.Calls))
+    Rested.emplace_back("calls", Calls);
   addBudgets(Rested, Asked);
   return Rested;
 }

@@ -61,16 +61,20 @@ static void lowerMeanings(Function &F, tv::Lowered &How) {
 // A function, a module
 //===----------------------------------------------------------------------===//
 
-static tv::Lowered lowerBody(Function *&Whole,
-                             const std::optional<tv::Global> &Variable) {
+static tv::Lowered lowerBody(Function *&Whole, const tv::Calls &Made,
+                             const tv::Together &Both) {
   tv::Lowered How;
   tv::lowerHeader(*Whole, How);
   tv::lowerConstants(*Whole, How);
   tv::lowerFills(*Whole, How);
-  if (Variable)
-    Whole = tv::lowerGlobal(*Whole, *Variable, How);
+  if (Both.Variable)
+    Whole = tv::lowerGlobal(*Whole, *Both.Variable, How);
+  if (Both.Plan)
+    tv::lowerCallPromises(*Whole, Made, *Both.Plan, How);
+  tv::lowerPromises(*Whole, How);
+  if (Both.Plan)
+    Whole = tv::lowerCalls(*Whole, Made, *Both.Plan, How);
   Function &F = *Whole;
-  tv::lowerPromises(F, How);
   tv::lowerHints(F, How);
   tv::lowerIntegers(F, How);
   tv::lowerAssumes(F, How);
@@ -79,9 +83,9 @@ static tv::Lowered lowerBody(Function *&Whole,
   return How;
 }
 
-tv::Lowered tv::lowerFunction(Function *&F,
-                              const std::optional<Global> &Variable) {
-  Lowered How = lowerBody(F, Variable);
+tv::Lowered tv::lowerFunction(Function *&F, const Calls &Made,
+                              const Together &Both) {
+  Lowered How = lowerBody(F, Made, Both);
   if (How.Rules.count("layout"))
     F->getParent()->setDataLayout("");
   return How;
@@ -94,6 +98,18 @@ static std::string joined(const std::set<std::string> &Words) {
 static cl::opt<std::string>
     PairOpt("tv-pair", cl::value_desc("file"),
             cl::desc("The other module of a pair, for the pass tv-lower"));
+
+static cl::opt<std::string> SideOpt(
+    "tv-side", cl::value_desc("side"),
+    cl::desc("Which side of -tv-pair this is: source, target, or names where "
+             "those that begin with tgt are targets"));
+
+static cl::opt<bool>
+    NoCallsOpt("tv-no-calls",
+               cl::desc("Leave calls to functions as they are, so that tv "
+                        "refuses them"));
+
+bool tv::writesCalls() { return !NoCallsOpt; }
 
 /// The other module of a pair; null where none is named. What it has of another
 /// form than this one is no variable that both name.
@@ -108,29 +124,64 @@ static std::unique_ptr<Module> otherModule(LLVMContext &Context) {
   return Other;
 }
 
-/// The variable that becomes a parameter of each function of a module, which
-/// the function of this name in the other module decides too.
-static SmallVector<std::pair<Function *, std::optional<tv::Global>>, 16>
-withVariables(Module &M) {
-  SmallVector<std::pair<Function *, std::optional<tv::Global>>, 16> Found;
+namespace {
+
+/// A function of a module, and what it is written out with, which the function
+/// of this name in the other module decides too.
+struct Paired {
+  Function *F;
+  tv::Calls Made;
+  tv::Together Both;
+  std::set<std::string> Alarms;
+};
+
+} // namespace
+
+/// Whether a function may be a source, and whether it may be a target. What asks
+/// for one side is asked of both where it isn't said which this is.
+static std::pair<bool, bool> sidesOf(StringRef Name) {
+  if (SideOpt == "names")
+    return {!Name.starts_with("tgt"), Name.starts_with("tgt")};
+  return {SideOpt != "target", SideOpt != "source"};
+}
+
+static void addPlan(Paired &One, const Function &Second) {
+  if (!tv::writesCalls())
+    return;
+  One.Made = tv::callsOf(*One.F);
+  tv::Calls Others = tv::callsOf(Second);
+  bool HasVariable = One.Both.Variable.has_value();
+  auto [IsSource, IsTarget] = sidesOf(One.F->getName());
+  if (IsTarget)
+    One.Both.Plan = tv::planOf(Others, One.Made, HasVariable);
+  if (IsSource && !(One.Both.Plan && !One.Both.Plan->Refused.empty()))
+    One.Both.Plan = tv::planOf(One.Made, Others, HasVariable);
+  One.Alarms = tv::callAlarms(One.Made, Others);
+}
+
+static std::vector<Paired> pairedFunctions(Module &M) {
+  std::vector<Paired> Found;
   std::unique_ptr<Module> Other = otherModule(M.getContext());
   for (Function &F : M) {
     if (F.isDeclaration())
       continue;
-    Found.push_back({&F, std::nullopt});
+    Found.push_back({&F, {}, {}, {}});
     const Function *Second = Other ? Other->getFunction(F.getName()) : nullptr;
-    if (Second && !Second->isDeclaration())
-      Found.back().second =
-          tv::globalOf(tv::globalsOf(F), tv::globalsOf(*Second));
+    if (!Second || Second->isDeclaration())
+      continue;
+    Found.back().Both.Variable =
+        tv::globalOf(tv::globalsOf(F), tv::globalsOf(*Second));
+    addPlan(Found.back(), *Second);
   }
   return Found;
 }
 
 PreservedAnalyses tv::LowerPass::run(Module &M, ModuleAnalysisManager &) {
   SmallVector<std::pair<Function *, Lowered>, 16> All;
-  for (auto &[F, Variable] : withVariables(M)) {
-    Lowered How = lowerBody(F, Variable);
-    All.push_back({F, std::move(How)});
+  for (Paired &Each : pairedFunctions(M)) {
+    Lowered How = lowerBody(Each.F, Each.Made, Each.Both);
+    How.Dropped.insert(Each.Alarms.begin(), Each.Alarms.end());
+    All.push_back({Each.F, std::move(How)});
   }
   // Whoever takes a function out of the module can leave the layout there.
   if (all_of(All, [](auto &Each) { return Each.second.Rules.count("layout"); }))
@@ -193,7 +244,7 @@ std::vector<std::string> tv::hiddenFaults(const Lowered &Source,
     // Where the caller breaks a promise that both have, the source allows
     // everything. Another one counts as kept where the source has the same.
     bool IsShared = isOfCaller(Each) || promiseOf(Each) != Each;
-    if (!IsShared || !Source.Dropped.count(Each))
+    if (!isOfCallee(Each) && (!IsShared || !Source.Dropped.count(Each)))
       Found.insert(promiseOf(Each).str());
   }
   for (const std::string &Each : Target.Compared)

@@ -10,6 +10,7 @@
 #ifndef TV_LLVM_LOWERING_H
 #define TV_LLVM_LOWERING_H
 
+#include "RulesCalls.h"
 #include "llvm/ADT/SetVector.h"
 #include "llvm/ADT/StringRef.h"
 #include "llvm/IR/PassManager.h"
@@ -63,10 +64,25 @@ Globals globalsOf(const llvm::Function &F);
 /// type or initial value on the other side.
 std::optional<Global> globalOf(const Globals &Source, const Globals &Target);
 
-/// Writes a function out, in a module of which it is the only one, with this
-/// variable as its last parameter. The function may be replaced by another one.
-Lowered lowerFunction(llvm::Function *&F,
-                      const std::optional<Global> &Variable);
+/// What both functions of a pair have to be written out with.
+struct Together {
+  /// The variable that becomes a parameter.
+  std::optional<Global> Variable;
+  /// How calls are written out.
+  std::optional<CallPlan> Plan;
+
+  bool operator==(const Together &Other) const {
+    return Variable == Other.Variable && Plan == Other.Plan;
+  }
+};
+
+/// Writes a function with these calls out, in a module of which it is the only
+/// one. The function may be replaced by another one.
+Lowered lowerFunction(llvm::Function *&F, const Calls &Made,
+                      const Together &Both);
+
+/// Whether calls are written out: -tv-no-calls says no.
+bool writesCalls();
 
 /// The promises that are missing on the source's side, where they can make an
 /// `incorrect` a false alarm, and those on the target's, where they can make a
@@ -79,8 +95,9 @@ std::vector<std::string> hiddenFaults(const Lowered &Source,
 /// The pass tv-lower: writes each function of a module out, and notes rules
 /// and promises in its attributes "tv-rules", "tv-dropped", "tv-compared" and
 /// "tv-unused".
-/// -tv-pair=FILE names the other module of a pair; without it no variable
-/// becomes a parameter.
+/// -tv-pair=FILE names the other module of a pair, -tv-side which of the two
+/// this one is; without it no variable becomes a parameter, and no call is
+/// written out.
 class LowerPass : public llvm::PassInfoMixin<LowerPass> {
 public:
   llvm::PreservedAnalyses run(llvm::Module &M, llvm::ModuleAnalysisManager &);

@@ -11,6 +11,7 @@
 //===----------------------------------------------------------------------===//
 
 #include "Observer.h"
+#include "CallLines.h"
 #include "OneFunction.h"
 #include "llvm/ADT/StringExtras.h"
 #include "llvm/Analysis/LazyCallGraph.h"
@@ -79,6 +80,33 @@ static void warn(Error Failure) {
     WithColor::warning(errs(), "tv") << toString(std::move(Failure)) << '\n';
 }
 
+/// What the functions of a pair are written out with.
+tv::Together tv::Observer::together(const Seen &Source, const Seen &Target) {
+  Together Both;
+  Both.Variable = globalOf(Source.Variables, Target.Variables);
+  Both.Plan = planOf(Source.Made, Target.Made, Both.Variable.has_value());
+  return Both;
+}
+
+/// Adds what the written out calls ask of the bounds: where pointers are passed
+/// and not accessed, one block more than the log.
+static void addCalls(tv::Needs &Memory, const Function &F,
+                     const tv::CallPlan &Plan) {
+  Memory.Calls = Plan.Places.size();
+  unsigned Pointers = count_if(
+      F.args(), [](const Argument &A) { return A.getType()->isPointerTy(); });
+  Memory.Blocks = std::max(Memory.Blocks, std::min(Pointers, 2u));
+}
+
+/// Shows an argument of a counterexample by another name.
+static void rename(std::vector<std::string> &Lines, unsigned Argument,
+                   const std::string &Name) {
+  std::string Old = "arg " + utostr(Argument) + " ";
+  for (std::string &Line : Lines)
+    if (StringRef(Line).starts_with(Old))
+      Line.replace(0, Old.size(), Name + " ");
+}
+
 tv::Observer::~Observer() { warn(Rows.finish()); }
 
 tv::Observer::Seen tv::Observer::see(const Function &F,
@@ -93,26 +121,29 @@ tv::Observer::Seen tv::Observer::see(const Function &F,
     return Found;
   if (Opts.Lower)
     Found.Variables = globalsOf(F);
-  writeOut(Found, Copy->Function, globalOf(Found.Variables, Found.Variables));
+  if (Opts.Lower && writesCalls())
+    Found.Made = callsOf(F);
+  writeOut(Found, Copy->Function, together(Found, Found));
   return Found;
 }
 
 /// Writes a function out as it is given to tv.
 void tv::Observer::writeOut(Seen &Found, Function *F,
-                            const std::optional<Global> &Variable) const {
+                            const Together &Both) const {
+  Found.Parameters = F->arg_size();
   if (Opts.Lower)
-    Found.How = lowerFunction(F, Variable);
-  Found.Parameter = Variable;
-  Found.LastArgument = ("arg " + Twine(F->arg_size() - 1) + " ").str();
+    Found.How = lowerFunction(F, Found.Made, Both);
+  Found.With = Both;
   Found.Now.Memory = needsOf(*F);
+  if (Both.Plan && Both.Plan->Refused.empty())
+    addCalls(Found.Now.Memory, *F, *Both.Plan);
   Found.Now.Text = textOf(*F->getParent());
 }
 
-/// Gives a function of a pair the variable that both have as a parameter. Most
-/// name the same one, so that nothing is left to do.
-void tv::Observer::join(Seen &Found,
-                        const std::optional<Global> &Variable) const {
-  if (Found.Parameter == Variable)
+/// Writes a function out with what both of a pair have. Most have the same of
+/// themselves, so that nothing is left to do.
+void tv::Observer::join(Seen &Found, const Together &Both) const {
+  if (Found.With == Both)
     return;
   LLVMContext Context;
   SMDiagnostic Fault;
@@ -121,23 +152,27 @@ void tv::Observer::join(Seen &Found,
   if (Copy)
     for (Function &F : *Copy)
       if (!F.isDeclaration())
-        return writeOut(Found, &F, Variable);
+        return writeOut(Found, &F, Both);
   // As it was: tv refuses a variable.
   Found.Now.Text = Found.Text;
   Found.How = Lowered();
 }
 
-/// What tv says of a pair. A value of the variable that both have as their last
-/// parameter is shown as the variable's.
+/// What tv says of a pair. Values of the parameters that both have more are
+/// shown by what they stand for.
 tv::Answer tv::Observer::judge(Seen &Source, Seen &Target) {
-  std::optional<Global> Variable = globalOf(Source.Variables, Target.Variables);
-  join(Source, Variable);
-  join(Target, Variable);
+  Together Both = together(Source, Target);
+  join(Source, Both);
+  join(Target, Both);
   Answer Row = Judge->check(Source.Now, Target.Now);
-  if (Variable)
-    for (std::string &Line : Row.Lines)
-      if (StringRef(Line).starts_with(Source.LastArgument))
-        Line.replace(0, Source.LastArgument.size(), "@" + Variable->Name + " ");
+  unsigned At = Source.Parameters;
+  if (Both.Variable)
+    rename(Row.Lines, At++, "@" + Both.Variable->Name);
+  if (!Both.Plan || !Both.Plan->Refused.empty())
+    return Row;
+  for (const std::string &Name : Both.Plan->parameters())
+    rename(Row.Lines, At++, "%" + Name);
+  nameCalls(Row.Lines, *Both.Plan, Source.Made, Target.Made);
   return Row;
 }
 
@@ -211,6 +246,8 @@ void tv::Observer::report(const Place &At, bool SeesCallers, Seen Source,
   Rules.insert(Target.How.Rules.begin(), Target.How.Rules.end());
   How.Rules.assign(Rules.begin(), Rules.end());
   How.Alarms = falseAlarms(Source.How, Target.How);
+  for (const std::string &Each : callAlarms(Source.Made, Target.Made))
+    How.Alarms.push_back(Each);
   How.Hides = hiddenFaults(Source.How, Target.How);
   // A row with a mark names a rule.
   if (Row.Kind == "correct" && How.Rules.empty() && !How.Hides.empty())

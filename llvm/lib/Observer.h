@@ -31,11 +31,13 @@ private:
     std::string Text;
     Side Now;
     Lowered How;
-    /// The variables that it names, and the one that is its parameter now.
+    /// The variables that it names, its calls, and what it is written out with
+    /// now.
     Globals Variables;
-    std::optional<Global> Parameter;
-    /// How tv names the last argument in a counterexample.
-    std::string LastArgument;
+    Calls Made;
+    Together With;
+    /// The parameters that it has of itself.
+    unsigned Parameters = 0;
   };
 
   /// A pass that runs: the functions that it may change.
@@ -47,10 +49,10 @@ private:
     std::vector<std::string> Functions;
   };
 
+  static Together together(const Seen &Source, const Seen &Target);
   Seen see(const llvm::Function &F, const Hashes &Hash) const;
-  void writeOut(Seen &Found, llvm::Function *F,
-                const std::optional<Global> &Variable) const;
-  void join(Seen &Found, const std::optional<Global> &Variable) const;
+  void writeOut(Seen &Found, llvm::Function *F, const Together &Both) const;
+  void join(Seen &Found, const Together &Both) const;
   void compare(const Running &Pass, const llvm::Function &F);
   Answer judge(Seen &Source, Seen &Target);
   void report(const Place &At, bool SeesCallers, Seen Source, Seen Target);

@@ -49,6 +49,11 @@ void lowerMemory(llvm::Function &F, Lowered &How);
 /// Before the promises, which ask what is stored through a parameter.
 void lowerFills(llvm::Function &F, Lowered &How);
 
+/// The function with parameters of these types, the first of which are those
+/// that it has.
+llvm::Function *withParameters(llvm::Function &F,
+                               llvm::ArrayRef<llvm::Type *> Types);
+
 /// Makes the address of a global variable the last parameter of a function.
 /// The function that it becomes.
 llvm::Function *lowerGlobal(llvm::Function &F, const Global &Known,

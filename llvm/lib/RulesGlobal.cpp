@@ -100,10 +100,7 @@ std::optional<tv::Global> tv::globalOf(const Globals &Source,
 // The parameter
 //===----------------------------------------------------------------------===//
 
-/// The function with a pointer that isn't null as one more parameter.
-static Function *withPointer(Function &F, const Twine &Name) {
-  SmallVector<Type *, 16> Types(F.getFunctionType()->params());
-  Types.push_back(PointerType::getUnqual(F.getContext()));
+Function *tv::withParameters(Function &F, ArrayRef<Type *> Types) {
   Function *New = Function::Create(
       FunctionType::get(F.getReturnType(), Types, /*isVarArg=*/false),
       F.getLinkage(), F.getAddressSpace());
@@ -116,13 +113,21 @@ static Function *withPointer(Function &F, const Twine &Name) {
     To.takeName(&From);
     From.replaceAllUsesWith(&To);
   }
-  Argument *Added = New->getArg(F.arg_size());
-  Added->setName(Name);
-  Added->addAttr(Attribute::NonNull);
-  Added->addAttr(Attribute::NoUndef);
   F.replaceAllUsesWith(New);
   New->takeName(&F);
   F.eraseFromParent();
+  return New;
+}
+
+/// The function with a pointer that isn't null as one more parameter.
+static Function *withPointer(Function &F, const Twine &Name) {
+  SmallVector<Type *, 16> Types(F.getFunctionType()->params());
+  Types.push_back(PointerType::getUnqual(F.getContext()));
+  Function *New = tv::withParameters(F, Types);
+  Argument *Added = New->getArg(New->arg_size() - 1);
+  Added->setName(Name);
+  Added->addAttr(Attribute::NonNull);
+  Added->addAttr(Attribute::NoUndef);
   return New;
 }
 

@@ -116,8 +116,12 @@ static bool cannotBreak(const Argument &A, Attribute::AttrKind Kind,
            ((!Uses.Reads && !Uses.Writes) || All.canNotAlias(A));
   case Attribute::Returned:
     return returnsOnly(*A.getParent(), &A);
-  // Nothing that tv reads frees memory or unwinds, or knows registers.
+  // Nothing that tv reads frees memory but a callee, or knows registers.
   case Attribute::NoFree:
+    return none_of(instructions(*A.getParent()), [](const Instruction &I) {
+      return isa<CallBase>(I) && !isa<IntrinsicInst>(I) &&
+             !cast<CallBase>(I).hasFnAttr(Attribute::NoFree);
+    });
   case Attribute::DeadOnUnwind:
   case Attribute::InReg:
     return true;
