@@ -5,6 +5,7 @@
 #include "llvm/IR/Module.h"
 #include "llvm/Passes/PassBuilder.h"
 #include "llvm/Passes/PassPlugin.h"
+#include "llvm/Transforms/Utils/Cloning.h"
 
 using namespace llvm;
 
@@ -89,6 +90,25 @@ struct ReachedPass : PassInfoMixin<ReachedPass> {
   }
 };
 
+/// Gives each function @f the body of @f.t: any pair can be one of a pass.
+struct BodyPass : PassInfoMixin<BodyPass> {
+  PreservedAnalyses run(Function &F, FunctionAnalysisManager &) {
+    Function *Other = F.getParent()->getFunction((F.getName() + ".t").str());
+    if (!Other || Other->isDeclaration())
+      return PreservedAnalyses::all();
+    F.deleteBody();
+    ValueToValueMapTy Map;
+    for (auto [From, To] : zip(Other->args(), F.args())) {
+      To.setName(From.getName());
+      Map[&From] = &To;
+    }
+    SmallVector<ReturnInst *, 8> Returns;
+    CloneFunctionInto(&F, Other, Map, CloneFunctionChangeType::LocalChangesOnly,
+                      Returns);
+    return PreservedAnalyses::none();
+  }
+};
+
 } // namespace
 
 static bool addToFunction(StringRef Name, FunctionPassManager &Passes,
@@ -99,6 +119,8 @@ static bool addToFunction(StringRef Name, FunctionPassManager &Passes,
     Passes.addPass(FlagPass());
   else if (Name == "wrong-alias")
     Passes.addPass(AliasPass());
+  else if (Name == "wrong-body")
+    Passes.addPass(BodyPass());
   else if (Name == "wrong-narrow")
     Passes.addPass(NarrowPass());
   else

@@ -31,6 +31,7 @@ STAND_IN = os.path.join(BUILD, "tv-llvm-stand-in.so")
 LIBRARY = os.path.join(TREE, "crates", "tv_c", "out", "libtv_c.a")
 WRONG = os.path.join(BUILD, "wrong-passes.so")
 PAIRS = os.path.join(HERE, "rules.ll")
+CALLS = os.path.join(HERE, "calls.ll")
 STRANGE = os.path.join(HERE, "strange.ll")
 CODE = os.path.join(TREE, "bench", "pairs.c")
 OPT, CLANG = "opt-19", "clang-19"
@@ -135,16 +136,27 @@ def within(part, whole, what):
 
 def pairs_have_their_rows(bench):
     """Each pair of rules.ll has the row of the comment before it."""
-    wanted = wanted_rows()
-    found = {name: row for name, row in rows_of(bench, PAIRS)}
+    have_their_rows(bench, PAIRS)
+
+
+def calls_have_their_rows(bench):
+    """Each pair of calls.ll has the row of the comment before it."""
+    have_their_rows(bench, CALLS)
+
+
+def have_their_rows(bench, path):
+    wanted = wanted_rows(path)
+    found = {name: row for name, row in rows_of(bench, path)}
     equal(set(found), set(wanted), "the pairs")
     for name, row in wanted.items():
         equal(plain(found[name]), plain(row), f"the row of {name}")
 
 
 def plain(text):
-    """A row or a report without what its correct rows rest on, which rules.ll doesn't say."""
-    return re.sub(r"^((?:@\S+ )?correct)(?: no bound)?(?: \[[^]]*\])?", r"\1", text, flags=re.M)
+    """A row or a report without what its correct rows rest on, and other bounds, which the files of
+    pairs don't say."""
+    return re.sub(r"^((?:@\S+ )?(?:in)?correct)(?: no bound)?(?: \[[^]]*\])?", r"\1", text,
+                  flags=re.M)
 
 
 def pairs_are_the_same_backwards(bench):
@@ -153,13 +165,13 @@ def pairs_are_the_same_backwards(bench):
         text = re.sub(r"@(src|tgt)\.",
                       lambda found: "@tgt." if found.group(1) == "src" else "@src.", file.read())
     found = dict(rows_of(bench, bench.write("back.ll", text)))
-    for name, row in wanted_rows().items():
+    for name, row in wanted_rows(PAIRS).items():
         if not row.startswith("refused"):
             equal(found[name].split()[0], row.split()[0], f"the kind of {name} backwards")
 
 
-def wanted_rows():
-    with open(PAIRS) as file:
+def wanted_rows(path):
+    with open(path) as file:
         found = re.findall(r"^; (.*)\ndefine .*@src\.(\w+)\(", file.read(), re.M)
     return {name: row for row, name in found}
 
@@ -274,6 +286,42 @@ def one_variable(bench):
 
 
 # What is seen.
+
+CALLER = """declare i8 @g(i8, ptr)
+declare void @h(i8)
+define i8 @calls(i8 %x, ptr %p) {
+  %r = call i8 @g(i8 %x, ptr %p)
+  %s = add i8 %r, 0
+  ret i8 %s
+}
+define i8 @calls.t(i8 %x, ptr %p) {
+  %r = call i8 @g(i8 %x, ptr %p)
+  ret i8 %r
+}
+define i8 @passes(i8 %x, ptr %p) {
+  call void @h(i8 1)
+  %r = call i8 @g(i8 3, ptr %p)
+  ret i8 %r
+}
+define i8 @passes.t(i8 %x, ptr %p) {
+  call void @h(i8 poison)
+  %r = call i8 @g(i8 3, ptr %p)
+  ret i8 %r
+}
+"""
+
+
+def calls_by_tv(bench):
+    """-tv judges calls, says how many there are, and names them in a counterexample."""
+    seen = bench.opt(CALLER, "wrong-body", "-tv-functions=calls,passes")
+    within("@calls correct [blocks 2 bytes 10 calls 1] by calls\n", seen.stderr, "a correct pair")
+    within("@passes incorrect [turns 0 bytes 12] by calls\n", seen.stderr, "an incorrect pair")
+    within("  source call 1 @h(1) does not return\n", seen.stderr, "the source's call")
+    within("  target call 1 @h(poison) does not return\n", seen.stderr, "the target's call")
+    seen = bench.opt(CALLER, "wrong-body", "-tv-functions=calls", "-tv-no-calls")
+    within("@calls refused source Unsupported", seen.stderr, "without calls")
+    within("call @g\n", seen.stderr, "without calls")
+
 
 def wrong_pass_is_found(bench):
     done = bench.opt(SUM, "instcombine,wrong-sub,gvn")
@@ -779,7 +827,8 @@ def strange_code(bench):
     equal("failed" in done.stderr, False, "a failed row")
 
 
-CASES = [pairs_have_their_rows, pairs_are_the_same_backwards, same_row_in_both, lowered_alone,
+CASES = [pairs_have_their_rows, pairs_are_the_same_backwards, calls_have_their_rows, calls_by_tv,
+         same_row_in_both, lowered_alone,
          correct_and_bounds, asks_again,
          one_variable, conventions,
          layouts, wrong_pass_is_found, flags_alone_are_seen, module_pass_is_seen,
