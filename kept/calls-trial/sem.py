@@ -103,7 +103,7 @@ def stmts(t, fn, body, cur):
         elif k == 'icmp':
             L.append('  %%%s = icmp %s i%d %s, %s' % (s['d'], s['pred'], s['w'], op(s['a'], s['w']), op(s['b'], s['w'])))
         elif k == 'sel':
-            L.append('  %%%s = select i1 %s, i%d %s, i%d %s' % (s['d'], op(s['c'], 1), s['w'], op(s['a'], s['w']), s['w'], op(s['b'], s['w'])))
+            L.append('  %%%s = select i1 %s, %s %s, %s %s' % (s['d'], op(s['c'], 1), ty(s['w']), op(s['a'], s['w']), ty(s['w']), op(s['b'], s['w'])))
         elif k == 'frz':
             L.append('  %%%s = freeze i%d %s' % (s['d'], s['w'], op(s['a'], s['w'])))
         elif k == 'ext':
@@ -142,7 +142,7 @@ def stmts(t, fn, body, cur):
                     inc.append('[ %s, %%%s ]' % (op(x, w), ca))
                 if cb:
                     inc.append('[ %s, %%%s ]' % (op(y, w), cb))
-                L.append('  %%%s = phi i%d %s' % (n, w, ', '.join(inc)))
+                L.append('  %%%s = phi %s %s' % (n, ty(w), ', '.join(inc)))
             cur = m
         elif k == 'ret':
             L.append('  ret void' if fn['ret'] is None else '  ret i%d %s' % (fn['ret'], op(s['v'], fn['ret'])))
